@@ -45,9 +45,11 @@ use Rattle.ucl_word.specs.declared.refusal.Refusal.TheVariants.{Stale}
 pub entries-append : (g : ℕ) (h l : List Entry) → entries_of g (h ++ l) ≡ entries_of g h ++ entries_of g l
 entries-append g h l = ap (map of_match) (filter-append (λ e. e.game == g) h l) ∙ map-append of_match (filter (λ e. e.game == g) h) (filter (λ e. e.game == g) l)
 
+-- an entry of a match at the end of a history is at the end of the entries of this match
 pub entries_same : (h : List Entry) (e : Entry) (g : ℕ) → e.game ≡ g → entries_of g (followed_by h e) ≡ entered (entries_of g h) e.reporter e.kind
 entries_same h e g is = entries-append g h (e ∷ []) ∙ ap (λ (b : Bool). entries_of g h ++ map of_match (cond b (e ∷ []) [])) (eq-eqb e.game g is)
 
+-- an entry of another match at the end of a history leaves the entries of a match as they are
 pub entries_else : (h : List Entry) (e : Entry) (g : ℕ) → e.game ≢ g → entries_of g (followed_by h e) ≡ entries_of g h
 entries_else h e g not = entries-append g h (e ∷ []) ∙ (ap (λ (b : Bool). entries_of g h ++ map of_match (cond b (e ∷ []) [])) (ne_eqb e.game g not) ∙ append-nil (entries_of g h))
 
@@ -57,6 +59,7 @@ legal_match g = may_induction MayFollow (λ h. IsLegalMatch (entries_of g h)) (m
     (λ is. rw (entries_same h e g is) (may_next IsAccepted (entries_of g h) (of_match e) was (subst (λ (g : ℕ). IsAccepted (entries_of g h) (of_match e)) is may.accepted)))
     (λ not. rw (entries_else h e g not) was))
 
+-- after a legal history the record of each match is valid
 pub match_valid : (g : ℕ) (h : List Entry) → IsLegal h → IsValid (match_after h g)
 match_valid g h legal = legal_valid (entries_of g h) (legal_match g h legal)
 
@@ -95,9 +98,11 @@ word_listed : (h : List Entry) (k d : ℕ) → k < 12 → get_or (board_of h) k 
 unfolding board_of
 word_listed h k d below = get_or-map (λ game. word_of (match_after h game)) match_numbers k 0 d below
 
+-- the board after a history has, for each match, the word of its record after the history
 pub word_after : (h : List Entry) (g : ℕ) → IsMatch g → word_at (board_of h) g ≡ word_of (match_after h g)
 word_after h g is = word_listed h (g - 1) 0 (omega arith) ∙ ap (λ game. word_of (match_after h game)) (number_listed g 0 is)
 
+-- the board after a legal history holds, for each match, the record counted from its entries
 pub game_after : (h : List Entry) (g : ℕ) → IsLegal h → IsMatch g → game_at (board_of h) g ≡ match_after h g
 game_after h g legal is = ap record_at (word_after h g is) ∙ record_back (match_after h g) (match_valid g h legal)
 
@@ -151,6 +156,7 @@ pub accepted_reply : (m g : MatchRecord) (call : EventCall) (number : ℕ) → m
     → Ok (record { number = number }) ≡ reply_of g call
 accepted_reply m g call number same none is = subst (λ (g : MatchRecord). Ok (record { number = number }) ≡ reply_of g call) same (rw is (sym (ap (λ (o : Option Refusal). answer m.number o) none)))
 
+-- if the rules refuse an event on the record of its match, the reply to it is this refusal
 pub refused_reply : (m g : MatchRecord) (call : EventCall) (refusal : Refusal) → m ≡ g → refusal_of m call.expected call.kind ≡ Some refusal → Err refusal ≡ reply_of g call
 refused_reply m g call refusal same some = subst (λ (g : MatchRecord). Err refusal ≡ reply_of g call) same (sym (ap (λ (o : Option Refusal). answer m.number o) some))
 
@@ -217,16 +223,18 @@ read_are_words index (w ∷ words) board is =
     let rest = read_are_words (index + 1) words one.1 one.3 in
     rw (← one.4) (ap suc rest.0, All-cons IsWord one.0 one.1 (read_valid w one.0 one.2) rest.1)
 
--- a number that tells which two clubs play a match, and the match that it tells
+-- a number that tells which two clubs play a match: ten times the home slot plus the away slot
 key : Fixture → ℕ
 key f = 10 * f.home + f.away
 
+-- the match that two clubs play, from the number that tells them, ten times the home slot plus the away slot; 0 if there is none
 game_of : ℕ → ℕ
 game_of key = if key == 23 then 1 else (if key == 41 then 2 else
     (if key == 12 then 3 else (if key == 34 then 4 else
     (if key == 31 then 5 else (if key == 24 then 6 else
     (if key == 13 then 7 else (if key == 42 then 8 else (if key == 32 then 9 else (if key == 14 then 10 else (if key == 21 then 11 else (if key == 43 then 12 else 0)))))))))))
 
+-- each match is the one that the number of its two clubs tells
 game_back : (game : ℕ) → IsMatch game → game_of (key (fixture_of game)) ≡ game
 unfolding key game_of
 game_back = each_match (λ game. game_of (key (fixture_of game)) ≡ game) refl refl refl refl refl refl refl refl refl refl refl refl
@@ -243,6 +251,7 @@ meet = each_slot (λ home. (away : ℕ) → IsSlot away → home ≢ away → (g
     (each_slot (λ away. 4 ≢ away → (game : ℕ) × IsMatch game × (fixture_of game ≡ at 4 away)) (λ not. (2, (omega arith, omega arith), refl)) (λ not. (8, (omega arith, omega arith), refl))
     (λ not. (12, (omega arith, omega arith), refl)) (λ not. absurd (not refl)))
 
+-- each club of a group plays each other club exactly once at home
 pub fixtures_meet : EachPairMeetsOnce
 fixtures_meet home away h a not = let m = meet home h away a not in record {
   game = m.0;
@@ -268,6 +277,7 @@ version_none : version_of (board_of []) ≡ 0
 unfolding board_of counted_match word_of record_at
 version_none = refl
 
+-- an entry that may follow a legal history raises the version of the board by one
 version_more : (h : List Entry) (e : Entry) → IsLegal h → MayFollow h e → version_of (board_of (followed_by h e)) ≡ version_of (board_of h) + 1
 version_more h e legal may =
     let long = board_length h in let game = may.game in
@@ -277,10 +287,12 @@ version_more h e legal may =
     let one = more h e e.game refl in
     ap version_of (board_next h e game) ∙ omega arith
 
+-- the version of the board after a legal history is the length of the history
 version_length : (h : List Entry) → IsLegal h → version_of (board_of h) ≡ length h
 version_length = may_induction MayFollow (λ h. version_of (board_of h) ≡ length h) version_none
     (λ h e legal may was. let more = version_more h e legal may in let long = length-append h (e ∷ []) in omega arith)
 
+-- the version of the board after a legal history is the length of the history, which is at most the greatest version
 pub versions : VersionsAreLengths
 versions h legal =
     let is = version_length h legal in let long = board_length h in
@@ -300,14 +312,17 @@ same_later h i j g le same =
     let none : entries_of g t.0 ≡ [] = nil_from_length (entries_of g t.0) (omega (arith, ap length cut, length-append (entries_of g (take i h)) (entries_of g t.0))) in
     sym (cut ∙ (ap (λ (x : List MatchEntry). entries_of g (take i h) ++ x) none ∙ append-nil (entries_of g (take i h))))
 
+-- at two points of a history at which a match has as many entries, it has the same entries
 same_entries : (h : List Entry) (i j g : ℕ) → length (entries_of g (take i h)) ≡ length (entries_of g (take j h)) → entries_of g (take i h) ≡ entries_of g (take j h)
 same_entries h i j g same = dite (dec_le i j) (λ le. same_later h i j g le same) (λ not. sym (same_later h j i g (omega arith) (sym same)))
 
+-- at two points of a history at which a match has the same event number, its entries and its word are the same
 pub same_number : SameNumberSameWord
 same_number h i j g same =
     let e = same_entries h i j g (sym (number_of_count (entries_of g (take i h))) ∙ (same ∙ number_of_count (entries_of g (take j h)))) in
     (e, ap (λ (es : List MatchEntry). word_of (counted_match es)) e)
 
+-- the first k entries of a legal history are legal
 pub legal_take : (h : List Entry) (k : ℕ) → IsLegal h → IsLegal (take k h)
 legal_take h k legal = may_begin MayFollow (take k h) (drop k h) (subst IsLegal (sym (take-append-drop k h)) legal)
 
@@ -353,6 +368,7 @@ attempt_cases h a None none legal is =
     (λ es legal_es is_es. counted es (match_after h a.call.game) a.reporter a.call.expected a.call.kind legal_es (is_es ∙ game_after h a.call.game legal is.1) is.0 none)
 attempt_cases h a (Some r) some legal is = (refl, legal)
 
+-- an attempt on the board after a legal history gives the board of the history after it, which is legal
 attempt_made : (h : List Entry) (a : Attempt) → IsLegal h → IsAttempt a → (board_after (board_of h) a ≡ board_of (after_attempt h a)) × IsLegal (after_attempt h a)
 attempt_made h a legal is = rw (game_after h a.call.game legal is.1) (attempt_cases h a (refusal_of (match_after h a.call.game) a.call.expected a.call.kind) refl legal is)
 
@@ -370,6 +386,7 @@ attempts_from h (a ∷ attempts) legal all =
     let rest = attempts_from (after_attempt h a) attempts made.1 (All-tail IsAttempt a attempts all) in
     (rest.0, ap (λ (ws : List ℕ). fold board_after ws attempts) made.0 ∙ rest.1)
 
+-- attempts on the fresh board leave the board of the accepted ones, a legal history whose length is its version
 pub attempts_counted : AttemptsAreCounted
 attempts_counted attempts all =
     let end = attempts_from [] attempts (may_none MayFollow) all in
@@ -448,6 +465,7 @@ begins_attempt : (h : List Entry) (a : Attempt) (o : Option Refusal) → refusal
 begins_attempt h a None none = rw none (begins_more h h (entry_of a.reporter a.call) (begins_same h))
 begins_attempt h a (Some r) some = rw some (begins_same h)
 
+-- the history after attempts begins with the history before them
 begins_all : (h : List Entry) (attempts : List Attempt) → IsPrefix h (fold after_attempt h attempts)
 begins_all h [] = begins_same h
 begins_all h (a ∷ attempts) =
@@ -491,6 +509,7 @@ go_stale h a attempts legal all ok =
     let one = ap (λ (l : List Entry). length (entries_of a.call.game l)) next ∙ more h (entry_of a.reporter a.call) a.call.game refl in
     stale_again (fold after_attempt h (a ∷ attempts)) a (attempts_from h (a ∷ attempts) legal all).0 is (λ e. absurd (omega arith))
 
+-- an accepted attempt that is made again changes nothing in the history and the board that later attempts leave
 pub repeats : RepeatsChangeNothing
 repeats h a between rest legal all ok =
     let stale = go_stale h a between legal all ok in
@@ -500,5 +519,6 @@ repeats h a between rest legal all ok =
           ∙ (ap (λ (ws : List ℕ). fold board_after ws rest) stale.board_is ∙ ap (λ (ws : List ℕ). fold board_after ws rest) (sym board)),
     )
 
+-- attempts after a legal history leave a legal history that begins with it, and the board of that history
 pub go_on : BoardsGoOn
 go_on h attempts legal all = let end = attempts_from h attempts legal all in record { begins = begins_all h attempts; legal = end.0; board = end.1 }

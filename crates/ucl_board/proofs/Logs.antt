@@ -21,16 +21,20 @@ use Rattle.ucl_board.specs.History.{IsLegal, MayFollow}
 pub history_append : (xs ys : Log) → history_of (xs ++ ys) ≡ history_of xs ++ history_of ys
 history_append xs ys = flat_map-append (λ (y : Logged). entry_list y.step.entry) xs ys
 
+-- the history of a log with one step more at its end has the entry of this step, if it added one, at its end
 pub history_more : (log : Log) (x : Logged) → history_of (log ++ x ∷ []) ≡ history_of log ++ entry_list x.step.entry
 history_more log x = history_append log (x ∷ []) ∙ ap (λ (l : List Entry). history_of log ++ l) (append-nil (entry_list x.step.entry))
 
+-- a step that adds no entry leaves the history as it is
 pub history_same : (log : Log) (x : Logged) → x.step.entry ≡ None → history_of (log ++ x ∷ []) ≡ history_of log
 history_same log x none = history_more log x ∙ (ap (λ (o : Option Entry). history_of log ++ entry_list o) none ∙ append-nil (history_of log))
 
+-- two logs, one after the other, enlist as many reporters as both together
 pub enlisted_append : (xs ys : Log) → enlisted_by (xs ++ ys) ≡ enlisted_by xs + enlisted_by ys
 enlisted_append xs ys = ap length (flat_map-append (λ (y : Logged). enlists y.step.target) xs ys)
     ∙ length-append (flat_map (λ (y : Logged). enlists y.step.target) xs) (flat_map (λ (y : Logged). enlists y.step.target) ys)
 
+-- a step at the end of a log enlists one reporter more if it enlists, and none if not
 pub enlisted_more : (log : Log) (x : Logged) → enlisted_by (log ++ x ∷ []) ≡ enlisted_by log + length (enlists x.step.target)
 enlisted_more log x = enlisted_append log (x ∷ []) ∙ ap (λ (l : List ℕ). enlisted_by log + length l) (append-nil (enlists x.step.target))
 
@@ -38,6 +42,7 @@ enlisted_more log x = enlisted_append log (x ∷ []) ∙ ap (λ (l : List ℕ). 
 pub history_on : (a b : Log) → IsPrefix a b → IsPrefix (history_of a) (history_of b)
 history_on a b p = (history_of p.0, sym (history_append a p.0) ∙ ap history_of p.1)
 
+-- a log enlists at least as many reporters as its beginning
 pub enlisted_on : (a b : Log) → IsPrefix a b → enlisted_by a ≤ enlisted_by b
 enlisted_on a b p = let e = ap enlisted_by (sym p.1) ∙ enlisted_append a p.0 in omega arith
 
@@ -46,6 +51,7 @@ pub taken_append : (seat : ℕ) (xs ys : Log) → taken_by seat (xs ++ ys) ≡ t
 taken_append seat xs ys = ap (map (λ (x : Logged). x.step)) (filter-append (λ (x : Logged). x.seat == seat) xs ys)
     ∙ map-append (λ (x : Logged). x.step) (filter (λ (x : Logged). x.seat == seat) xs) (filter (λ (x : Logged). x.seat == seat) ys)
 
+-- the steps of a seat in a log begin with its steps in the beginning of the log
 pub taken_on : (seat : ℕ) (a b : Log) → IsPrefix a b → IsPrefix (taken_by seat a) (taken_by seat b)
 taken_on seat a b p = (taken_by seat p.0, sym (taken_append seat a p.0) ∙ ap (taken_by seat) p.1)
 
@@ -53,10 +59,12 @@ taken_on seat a b p = (taken_by seat p.0, sym (taken_append seat a p.0) ∙ ap (
 pub one_taken : (seat : ℕ) (x : Logged) (b : Bool) → (x.seat == seat) ≡ b → taken_by seat (x ∷ []) ≡ map (λ (y : Logged). y.step) (cond b (x ∷ []) [])
 one_taken seat x b is = ap (λ (c : Bool). map (λ (y : Logged). y.step) (cond c (x ∷ []) [])) is
 
+-- a step of a seat at the end of a log is at the end of the steps of this seat
 pub taken_own : (seat : ℕ) (log : Log) (t : Taken) → taken_by seat (log ++ logged_by seat t ∷ []) ≡ taken_by seat log ++ t ∷ []
 taken_own seat log t = taken_append seat log (logged_by seat t ∷ [])
     ∙ ap (λ (l : List Taken). taken_by seat log ++ l) (one_taken seat (logged_by seat t) true (eq-eqb seat seat refl))
 
+-- a step of another seat at the end of a log leaves the steps of a seat as they are
 pub taken_other : (seat : ℕ) (log : Log) (x : Logged) → x.seat ≢ seat → taken_by seat (log ++ x ∷ []) ≡ taken_by seat log
 taken_other seat log x not = taken_append seat log (x ∷ [])
     ∙ (ap (λ (l : List Taken). taken_by seat log ++ l) (one_taken seat x false (ne_eqb x.seat seat not)) ∙ append-nil (taken_by seat log))
@@ -87,6 +95,7 @@ first_taken : (seat : ℕ) (y : Logged) (log : Log) (b : Bool) → (y.seat == se
 first_taken seat y log true is = ap (λ (c : Bool). map (λ (z : Logged). z.step) (cond c (y ∷ filter (λ (z : Logged). z.seat == seat) log) (filter (λ (z : Logged). z.seat == seat) log))) is
 first_taken seat y log false is = ap (λ (c : Bool). map (λ (z : Logged). z.step) (cond c (y ∷ filter (λ (z : Logged). z.seat == seat) log) (filter (λ (z : Logged). z.seat == seat) log))) is
 
+-- each step of a log is among the steps of its own seat
 in_taken : (log : Log) (k : ℕ) (x : Logged) → slice_get log k ≡ Some x → (j : ℕ) × (slice_get (taken_by x.seat log) j ≡ Some x.step)
 in_taken [] k x at = absurd cc
 in_taken (y ∷ log) zero x at =
@@ -99,6 +108,7 @@ in_taken (y ∷ log) (suc k) x at =
       | inr not ↦ (t.0, ap (λ (l : List Taken). slice_get l t.0) (first_taken x.seat y log false (ne_eqb y.seat x.seat not)) ∙ t.1)
     ]
 
+-- each step of a seat is in the log, as one of this seat
 of_taken : (seat : ℕ) (log : Log) (j : ℕ) (t : Taken) → slice_get (taken_by seat log) j ≡ Some t → (k : ℕ) × (slice_get log k ≡ Some (logged_by seat t))
 of_taken seat [] j t at = absurd cc
 of_taken seat (y ∷ log) j t at = by (of_taken seat log) (y.seat == seat) refl
@@ -188,15 +198,19 @@ knows_all v before x is p same =
 pub added_more : (steps : List Taken) (t : Taken) → added_by (steps ++ t ∷ []) ≡ added_by steps ++ entry_list t.entry
 added_more steps t = flat_map-append (λ (x : Taken). entry_list x.entry) steps (t ∷ []) ∙ ap (λ (l : List Entry). added_by steps ++ l) (append-nil (entry_list t.entry))
 
+-- the accesses in two lists of steps, one after the other, are those in the first and then those in the second
 pub accesses_append : (xs ys : List Taken) → accesses_in (xs ++ ys) ≡ accesses_in xs ++ accesses_in ys
 accesses_append xs ys = flat_map-append (λ (x : Taken). access_list x.target x.place x.at) xs ys
 
+-- a step at the end of a pass's steps gives it the number that the step enlists, or leaves its number as it is
 pub number_more : (steps : List Taken) (t : Taken) → number_of (steps ++ t ∷ []) ≡ number_by t.target (number_of steps)
 number_more steps t = fold-append (λ (number : ℕ) (x : Taken). number_by x.target number) 0 steps (t ∷ [])
 
+-- the entries of a history by the reporter with this number
 abbrev entries_by : ℕ → List Entry → List Entry
 entries_by number history = filter (λ e. e.reporter == number) history
 
+-- a reporter's entries in two histories, one after the other, are those in the first and then those in the second
 entries_append : (n : ℕ) (xs ys : List Entry) → entries_by n (xs ++ ys) ≡ entries_by n xs ++ entries_by n ys
 entries_append n xs ys = filter-append (λ (e : Entry). e.reporter == n) xs ys
 
@@ -205,11 +219,12 @@ legal_more : (h : List Entry) (n : ℕ) (o : Option Entry) → IsLegal h → May
 legal_more h n None legal may = subst IsLegal (sym (append-nil h)) legal
 legal_more h n (Some e) legal may = may_next MayFollow h e legal may.0
 
+-- the history of a log in which each step is legal is legal
 pub legal_history : (log : Log) → HasLegalSteps log → IsLegal (history_of log)
 legal_history = may_induction IsLegalStep (λ l. IsLegal (history_of l)) (may_none MayFollow)
     (λ xs x before may was. subst IsLegal (sym (history_more xs x)) (legal_more (history_of xs) (number_of (taken_by x.seat xs)) x.step.entry was may.adds))
 
--- the number of an entry's reporter is one of those that are given
+-- the number of an entry's reporter is one of those given to n reporters, 1 to n
 abbrev InRank : ℕ → Entry → Type 0
 InRank n e = (0 < e.reporter) × (e.reporter ≤ n)
 
@@ -218,11 +233,13 @@ own_entries : (h : List Entry) (n : ℕ) (o : Option Entry) → MayAdd h n o →
 own_entries h n None may = refl
 own_entries h n (Some e) may = ap (λ (b : Bool). cond b (e ∷ []) []) (eq-eqb e.reporter n may.1)
 
+-- an entry that a step may add for one reporter's number is not of another
 other_entries : (h : List Entry) (n m : ℕ) (o : Option Entry) → MayAdd h n o → (0 < n → n ≢ m) → entries_by m (entry_list o) ≡ []
 other_entries h n m None may not = refl
 other_entries h n m (Some e) may not =
     ap (λ (b : Bool). cond b (e ∷ []) []) (ne_eqb e.reporter m (λ same. let r = may.0.accepted.reporter.0 in let is = may.1 in not (omega arith) (sym is ∙ same)))
 
+-- an entry that a step may add has a reporter's number from 1 to m, if the number of its pass is at most m
 ranked_list : (h : List Entry) (n m : ℕ) (o : Option Entry) → MayAdd h n o → n ≤ m → All (InRank m) (entry_list o)
 ranked_list h n m None may low = All-nil (InRank m)
 ranked_list h n m (Some e) may low = let r = may.0.accepted.reporter.0 in let is = may.1 in All-cons (InRank m) e [] (omega arith, omega arith) (All-nil (InRank m))
@@ -316,6 +333,7 @@ facts_next : (log : Log) → LogFacts log → (x : Logged) (t : Target) → x.st
 facts_next log r x (Enlists found) is there may adds = facts_more log r x found is there.0 there.1 may.0 may.1
 facts_next log r x target is there may adds = facts_same log r x (ap (λ (t : Target). length (enlists t)) is) (λ n. ap (λ (t : Target). number_by t n) is) adds
 
+-- the facts on reporters, their numbers and their entries hold of a log without steps
 facts_none : LogFacts []
 facts_none = record {
   few = omega arith;
@@ -326,6 +344,7 @@ facts_none = record {
   mine = λ seat. refl;
 }
 
+-- the facts on reporters, their numbers and their entries hold of each possible log in which each step is legal
 pub log_facts : (log : Log) → IsLog log → HasLegalSteps log → LogFacts log
 log_facts log = may_induction MayBeTaken (λ l. HasLegalSteps l → LogFacts l) (λ f. facts_none)
     (λ xs x before may was legal.

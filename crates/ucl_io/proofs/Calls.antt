@@ -28,6 +28,7 @@ pub turns-as : {T : Type 0} (count : T → ℕ) (calls : ℕ) (P Q : T → List 
 turns-as count calls P Q gives none = none
 turns-as count calls P Q gives (call time bytes p is more h) = call time bytes (turns-as count calls P Q gives p) is more (gives time bytes h)
 
+-- if P gives Q at each time, calls logged with P are calls logged with Q
 abbrev pub logs-as : {T : Type 0} (count : T → ℕ) (old new : List T) (calls calls2 : ℕ) (P Q : T → List ℕ → Type 0) → ((time : T) (bytes : List ℕ) → P time bytes → Q time bytes)
     → LogsCalls count old new calls calls2 P → LogsCalls count old new calls calls2 Q
 logs-as count old new calls calls2 P Q gives p = record {

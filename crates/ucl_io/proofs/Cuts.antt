@@ -13,6 +13,7 @@ pub ended_none : (cap : ℕ) (line : List ℕ) → ended_lines cap line [] ≡ [
 unfolding ended_lines
 ended_none cap line = refl
 
+-- after no bytes the line that has begun is what was kept of it before
 pub begun_none : (cap : ℕ) (line : List ℕ) → begun_line cap line [] ≡ line
 unfolding begun_line
 begun_none cap line = refl
@@ -49,6 +50,7 @@ pub ended_ten : (cap : ℕ) (line : List ℕ) (b : ℕ) → b ≡ 10 → ended_l
 unfolding ended_lines
 ended_ten cap line b e = rw e refl
 
+-- after a line feed nothing is kept of a line that has begun
 pub begun_ten : (cap : ℕ) (line : List ℕ) (b : ℕ) → b ≡ 10 → begun_line cap line (b ∷ []) ≡ []
 unfolding begun_line
 begun_ten cap line b e = rw e refl
@@ -68,6 +70,7 @@ no_feed_front [] (suc n) h = tt
 no_feed_front (b ∷ text) zero h = tt
 no_feed_front (b ∷ text) (suc n) h = (h 0 (omega arith), no_feed_front text n (λ k l e. h (suc k) (omega arith) e))
 
+-- a text none of whose bytes is a line feed has no line feed
 pub no_feed_all : (text : List ℕ) → NoFeedIn text (length text) → HasNoFeed text
 no_feed_all text h = subst HasNoFeed (take-length text) (no_feed_front text (length text) h)
 
@@ -111,6 +114,7 @@ pub ended_line : (cap : ℕ) (line end : List ℕ) → HasNoFeed end → length 
 ended_line cap line end clean short =
     ended_append cap line end (10 ∷ []) ∙ rw (no_ended cap line end clean, begun_all cap line end clean short) (ended_ten cap (take cap (line ++ end)) 10 refl)
 
+-- after bytes that end with a line feed nothing is kept of a line that has begun
 pub begun_ended : (cap : ℕ) (line end : List ℕ) → begun_line cap line (end ++ 10 ∷ []) ≡ []
 begun_ended cap line end = begun_append cap line end (10 ∷ []) ∙ begun_ten cap (begun_line cap line end) 10 refl
 

@@ -59,6 +59,7 @@ stopped_second before total failed old mid new a b written out total_is s = let 
 pub put_nothing : (a : Outlet) → a.out ≤ 2 ^ 64 - 1 → HasPut a a []
 put_nothing a h = record { given = []; went = Appends-nil a.taken; rest = sym (append-nil a.held); told = omega arith; sound = refl }
 
+-- what went out when t was put, what waits then, and u are together what waited before, t and u
 all_put : (a b : Outlet) (t u : List ℕ) (p : HasPut a b t) → p.given ++ (b.held ++ u) ≡ a.held ++ (t ++ u)
 all_put a b t u p = sym (append_assoc p.given b.held u) ∙ ap (λ (l : List ℕ). l ++ u) p.rest ∙ append_assoc a.held t u
 

@@ -11,6 +11,7 @@ use Rattle.ucl_live_board.proofs.Halves.{in_whole}
 pub taken_here : (seat : ℕ) (t : Taken) (log : Log) → taken_by seat (logged_by seat t ∷ log) ≡ t ∷ taken_by seat log
 taken_here seat t log = search (arith, eq-eqb)
 
+-- a step of another seat in front of a log leaves the steps of a seat as they are
 pub taken_else : (seat other : ℕ) (t : Taken) (log : Log) → other ≢ seat → taken_by seat (logged_by other t ∷ log) ≡ taken_by seat log
 taken_else seat other t log not = search (arith, ne_eqb)
 
@@ -37,6 +38,7 @@ view_at (v ∷ views) (suc j) below = view_at views j (omega arith)
 pub none_beyond : (n j : ℕ) (log : Log) → n ≤ j → All (λ (x : Logged). x.seat < n) log → taken_by j log ≡ []
 none_beyond n j log le all = taken_none j log (below_more n j log le all)
 
+-- a share other than None, no share, is some share
 pub some_acts : (s : Share) → s ≢ None → IsSome s
 some_acts s not = search arith
 
@@ -94,5 +96,6 @@ module _ (words_after : List Entry → ℕ → List ℕ) (May : Log → Logged �
               (λ many. let a = numbered 1 (omega arith) (omega (arith, many)) in let b = numbered 2 (omega arith) (omega (arith, many)) in absurd (omega arith));
         }
 
+-- if steps follow a legal rule, a pass whose share is the whole board entered all entries, and no other was enlisted
 pub whole_is_alone : (words_after : List Entry → ℕ → List ℕ) (May : Log → Logged → Type 0) → IsLegalRule May → WholeIsAlone words_after May
 whole_is_alone words_after May legal words views r seat v here share = alone_there words_after May words views r legal seat v here share

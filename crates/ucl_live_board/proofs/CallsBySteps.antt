@@ -14,6 +14,7 @@ use Rattle.ucl_live_board.proofs.StepFacts.{Goes, Sees, Adds, GivesNumber, sound
 pub takes_none : (v : View) → Takes v [] v
 takes_none v = record { own = sym (append-nil v.own); copied = refl }
 
+-- if steps lead a pass from the view u to v, and further steps from v to w, all of them lead it from u to w
 pub takes_on : (u v w : View) (xs ys : List Taken) → Takes u xs v → Takes v ys w → Takes u (xs ++ ys) w
 takes_on u v w xs ys a b = record { own = b.own ∙ (ap (λ (l : List Taken). l ++ ys) a.own ∙ append_assoc u.own xs ys); copied = b.copied ∙ a.copied }
 
@@ -29,6 +30,7 @@ pub record Stays (v w : View) : Type 0 where
   pub mine : added_by w.own ≡ added_by v.own
   pub number : number_of w.own ≡ number_of v.own
 
+-- without a step a pass stays: it knows no less than before, and has the same share
 pub stays_none : (v : View) → Stays v v
 stays_none v = record { seen = begins_same (history_of v.log); listed = le_refl (enlisted_by v.log); share = refl; mine = refl; number = refl }
 

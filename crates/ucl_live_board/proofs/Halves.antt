@@ -3,6 +3,7 @@ use Rattle.ucl_live_board.proofs.Common.{◌≡◌, ◌⊎◌, inl, inr, ⊎_eli
 use Rattle.ucl_live_board.proofs.Common.{append_assoc, length, length-append, arith, [], Some, None, IsSome, IsPrefix, begins_none, begins_more}
 use Rattle.ucl_live_board.proofs.Common.{begins_through, Share, whole, half_of, first_half, second_half, Overlap}
 
+-- if one share overlaps with another, the other overlaps with it
 pub overlap_swap : (s t : Share) → Overlap s t → Overlap t s
 overlap_swap s t o = search arith
 
@@ -31,21 +32,26 @@ one_turn (x ∷ path) rest a b is = one_turn path rest a b (cc)
 pub halves_apart : (s : Share) → Overlap (second_half s) (first_half s) → ⊥
 halves_apart s o = search (arith, true≢false, one_turn)
 
+-- a path that ends with a turn is not empty
 no_end : (path : List Bool) (side : Bool) → path ++ side ∷ [] ≡ [] → ⊥
 no_end path side is = let l = ap length is in omega (arith, length-append path (side ∷ []))
 
 some_same : (a b : List Bool) → Some a ≡ Some b → a ≡ b
 some_same a b is = cc
 
+-- half of a share is a share
 pub half_acts : (side : Bool) (s : Share) → IsSome s → IsSome (half_of side s)
 half_acts side s acts = search arith
 
+-- a share that is some share is not None, no share
 pub acts_some : (s : Share) → IsSome s → s ≡ None → ⊥
 acts_some s acts none = true≢false (sym (subst IsSome none acts))
 
+-- a half is never the share of the whole board
 pub half_not_whole : (side : Bool) (s : Share) → half_of side s ≡ whole → ⊥
 half_not_whole side s is = search (arith, no_end, some_same, acts_some)
 
+-- if a half of a share is None, no share, the share is None too
 pub half_none : (side : Bool) (s : Share) → half_of side s ≡ None → s ≡ None
 half_none side s none = search (arith, acts_some)
 

@@ -315,6 +315,7 @@ both_there words_after May v seat was =
       there = lists.at_last left (second_pass v) (length left) refl;
     }
 
+-- if a pass occurs, the passes that a split leaves and splits off occur together
 pub split_occurs : (words_after : List Entry → ℕ → List ℕ) (May : Log → Logged → Type 0) (v left second : View) → left ≡ left_pass v → second ≡ second_pass v
     → BothOccur words_after May v left second
 split_occurs words_after May v left second kept given = subst (λ (u : View). BothOccur words_after May v u second) (sym kept)

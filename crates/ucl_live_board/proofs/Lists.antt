@@ -18,6 +18,7 @@ by_more n s h p = ap (entries_by n) (sym p.1) ∙ filter-append (λ (e : Entry).
 pub by_own : (n : ℕ) (h : List Entry) (e : Entry) → e.reporter ≡ n → entries_by n (followed_by h e) ≡ followed_by (entries_by n h) e
 by_own n h e is = filter-append (λ (x : Entry). x.reporter == n) h (e ∷ []) ∙ ap (λ (b : Bool). entries_by n h ++ cond b (e ∷ []) []) (eq-eqb e.reporter n is)
 
+-- an entry of another reporter at the end of a history leaves the entries of a reporter as they are
 pub by_other : (n : ℕ) (h : List Entry) (e : Entry) → e.reporter ≢ n → entries_by n (followed_by h e) ≡ entries_by n h
 by_other n h e ne = filter-append (λ (x : Entry). x.reporter == n) h (e ∷ []) ∙ (ap (λ (b : Bool). entries_by n h ++ cond b (e ∷ []) []) (ne_eqb e.reporter n ne) ∙ append-nil (entries_by n h))
 
@@ -41,9 +42,11 @@ unchanged k m sound same = subst (Continues k) (sym same) (record { sound = soun
 pub goes_on : (k m z : PassView) → Continues k m → Continues m z → Continues k z
 goes_on k m z a b = search (arith, begins_through)
 
+-- if the test says that two numbers differ, they do
 pub differ : (a b : ℕ) (r : Bool) → r ≡ not (a == b) → r ≡ true → a ≢ b
 differ a b r is said same = true≢false (sym said ∙ (is ∙ ap not (eq-eqb a b same)))
 
+-- if the test says that two numbers do not differ, they are the same
 pub one_number : (a b : ℕ) (r : Bool) → r ≡ not (a == b) → r ≡ false → a ≡ b
 one_number a b r is said = grind (arith, nat_tests)
 
@@ -65,6 +68,7 @@ three_counts a b ne (x ∷ t) = search (arith, one_of_three, eqb-true, three_cou
 abbrev OfTwo : ℕ → ℕ → Entry → Type 0
 OfTwo a b e = (e.reporter ≡ a) ⊎ (e.reporter ≡ b)
 
+-- if no entry is of a reporter other than two, each entry is of one of these two
 no_others : (a b : ℕ) (t : List Entry) → length (others a b t) ≡ 0 → All (OfTwo a b) t
 no_others a b [] none = All-nil (OfTwo a b)
 no_others a b (x ∷ t) none = search (arith, All-cons, no_others a b t, eqb_tells x.reporter a, eqb_tells x.reporter b)

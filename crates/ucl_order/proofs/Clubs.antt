@@ -36,11 +36,12 @@ four-places xs a b c d n p q r s =
     → xs ≡ a ∷ b ∷ c ∷ d ∷ [])
     (λ w x y z p q r s. cc) xs n p q r s
 
--- four good clubs, and what the roster keeps of them
+-- the club is good, and the member, which the roster keeps, shows that club
 pub record IsTaken (club : NamedClub) (member : Member) : Type 0 where
   pub good : IsClub club
   pub same : member_seen member ≡ club
 
+-- what the roster keeps of four good clubs shows those clubs, and none of their slots is bad
 pub four-taken : (a b c d : NamedClub) (w x y z : Member) → IsTaken a w → IsTaken b x → IsTaken c y → IsTaken d z
     → (members_seen (w ∷ x ∷ y ∷ z ∷ []) ≡ a ∷ b ∷ c ∷ d ∷ []) × (bad_slot (a ∷ b ∷ c ∷ d ∷ []) ≡ None)
 unfolding bad_slot_from
@@ -58,6 +59,7 @@ four-lent (e ∷ f ∷ g ∷ h ∷ []) p q r s w x y z n a b c d =
     (record { good = a.0; same = a.1 }) (record { good = b.0; same = b.1 }) (record { good = c.0; same = c.1 }) (record { good = d.0; same = d.1 })
 four-lent clubs p q r s w x y z n a b c d = absurd (omega arith)
 
+-- if no slot of a list of clubs is bad, each of the clubs is good
 clubs-good : (slot : ℕ) (clubs : List NamedClub) → bad_slot_from slot clubs ≡ None → All IsClub clubs
 unfolding bad_slot_from
 clubs-good slot [] none = All-nil IsClub

@@ -5,6 +5,7 @@ use Rattle.ucl_order.proofs.Common.{is_one_class, length, map, mark_by, mark_of,
 use Rattle.ucl_order.proofs.Common.{settled_within, slice_index, split, started_of, suc, sym, zero, ℕ, ◌-◌, ◌∙◌, ◌∷◌, ◌≡◌}
 use Rattle.std.proofs.Math.ListN.{get_or-map}
 
+-- the coefficient of the club in a slot is the one at place `slot - 1` of the list of coefficients, 0 if there is none
 coefficient-is : (clubs : List NamedClub) (slot : ℕ) → coefficient_of clubs slot ≡ get_or (coefficients_in clubs) (slot - 1) 0
 coefficient-is clubs slot = sym (get_or-map (λ (club : NamedClub). club.coefficient) clubs (slot - 1) (record { name = []; coefficient = 0 }))
 
@@ -43,5 +44,6 @@ module _ (one other : List NamedClub) (same : coefficients_in one ≡ coefficien
       ap (λ (order : List ℕ). let slot : ℕ = slice_index order (place - 1) in row_with place slot (mark_by (matches_of board) order slot) (started_of board))
       (order-same profile board)
 
+-- of two rosters with the same coefficients, slot by slot, the table of a board is the same
 pub table-same : TableGoesByCoefficients
 table-same profile board one other same = ap (λ (row : ℕ → Row). map row (1 ∷ 2 ∷ 3 ∷ 4 ∷ [])) (fun_ext (row-same one other same profile board))

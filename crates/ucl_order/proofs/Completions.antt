@@ -15,14 +15,16 @@ use Rattle.ucl_order.proofs.TieBreaks.{order-pairs}
 use Rattle.ucl_order.proofs.Slots.{by_four, a_club, are_matches, all-four}
 use Rattle.ucl_order.proofs.Limits.{plays, gains, gains-le, played-cons, points-cons}
 
--- no later club has more
+-- the key never rises along the list: no later club has a greater key than an earlier one
 abbrev pub Falls : (ℕ → ℕ) → List ℕ → Type 0
 Falls key xs = AllPairs (λ x y. key y ≤ key x) xs
 
+-- a club that stands above another has at least as many points
 points_fall : (profile : Profile) (ms : List Match) (roster : List NamedClub) (a b : ℕ) → StandsAbove profile ms roster a b → points b ms ≤ points a ms
 points_fall profile ms roster a b (points_higher h) = grind (arith, nat_tests)
 points_fall profile ms roster a b (higher_in_tie e h) = grind (arith, nat_tests)
 
+-- in the order no later club has more points than an earlier one
 pub order_falls : (profile : Profile) (ms : List Match) (roster : List NamedClub) → Falls (λ c. points c ms) (order_of profile ms roster)
 order_falls profile ms roster i j d h l = points_fall profile ms roster _ _ (order-pairs profile ms roster i j d h l)
 
@@ -91,6 +93,7 @@ plays_alike at_home away h v h' v' = search arith
 plays_same : (club game : ℕ) (board later : List ℕ) → plays (seen_by club (match_at later game)) ≡ plays (seen_by club (match_at board game))
 plays_same club game board later = plays_alike ((fixture_of game).home == club) ((fixture_of game).away == club) _ _ _ _
 
+-- a match whose record is the same on two boards is the same match
 match_kept : (board later : List ℕ) (game : ℕ) → game_at later game ≡ game_at board game → match_at later game ≡ match_at board game
 match_kept board later game e = rw e
 
@@ -129,31 +132,37 @@ all_kept (game ∷ games) board later are done all =
     let rest : map (match_at later) games ≡ map (match_at board) games = all_kept games board later (All-tail IsMatch game games are) done parts.1 in
     rw (here, rest)
 
+-- a completion of a board on which all matches are finished has the same matches as the board
 unchanged : (board later : List ℕ) → IsCompletion board later → list_all has_finished (matches_of board) ≡ true → matches_of later ≡ matches_of board
 unfolding matches_of
 unchanged board later done all = all_kept match_numbers board later are_matches done all
 
+-- two boards with the same matches give the same order
 same_order : (profile : Profile) (board later : List ℕ) (roster : List NamedClub) → matches_of later ≡ matches_of board →
     order_of profile (started_of later) roster ≡ order_of profile (started_of board) roster
 unfolding order_of
 same_order profile board later roster e = rw e
 
+-- the points of a club in those matches of the later board that are in play or finished
 final_points : List ℕ → ℕ → ℕ
 final_points later club = points club (started_of later)
 
--- the mark, at the tests that it makes
+-- if the mark is plus, all is over and the club is through, or few others can reach it
 plus_cases : (all through few many : Bool) → (if all then (if through then Plus else Minus) else (if few then Plus else (if many then Minus else Blank))) ≡ Plus
     → ((all ≡ true) × (through ≡ true)) ⊎ (few ≡ true)
 plus_cases all through few many h = search arith
 
+-- if the mark is minus, all is over and the club is not through, or too many others are out of its reach
 minus_cases : (all through few many : Bool) → (if all then (if through then Plus else Minus) else (if few then Plus else (if many then Minus else Blank))) ≡ Minus
     → ((all ≡ true) × (through ≡ false)) ⊎ (many ≡ true)
 minus_cases all through few many h = search arith
 
+-- where the other club ends with at least as many points as the club, it could reach the points that the club was sure of
 reach_weaker : (last_club last_other sure_club reach_other : ℕ) (b : Bool) → sure_club ≤ last_club
     → last_other ≤ reach_other → (b && nat_le last_club last_other) ≡ true → (b && nat_le sure_club reach_other) ≡ true
 reach_weaker p q r s b l h e = grind (arith, nat_tests, cases_Bool b)
 
+-- where the other club was sure of more points than the club could reach, it ends with more points than the club
 pass_stronger : (last_club last_other reach_club sure_other : ℕ) (b : Bool) → last_club ≤ reach_club
     → sure_other ≤ last_other → (b && nat_lt reach_club sure_other) ≡ true → (b && nat_lt last_club last_other) ≡ true
 pass_stronger p q r s b l h e = grind (arith, nat_tests, cases_Bool b)
@@ -162,6 +171,7 @@ pass_stronger p q r s b l h e = grind (arith, nat_tests, cases_Bool b)
 through_if : (order : List ℕ) (club : ℕ) → is_in (take 2 order) club ≡ true → Contains (take 2 order) club
 through_if order club h = Contains-from_any {eq = λ x y. y == x} (λ x y e. sym (eqb-true y x e)) club (take 2 order) h
 
+-- a club that the test does not find among the first two of an order is not one of them
 not_through_if : (order : List ℕ) (club : ℕ) → is_in (take 2 order) club ≡ false → Contains (take 2 order) club → ⊥
 not_through_if order club h found =
     let there : is_in (take 2 order) club ≡ true = list_any_at (λ c. c == club) (take 2 order) found.0 club found.1 (eq-eqb _ _ found.2) in
@@ -269,6 +279,7 @@ module _ (profile : Profile) (board : List ℕ) (roster : List NamedClub) where
 
 -- ---- the marks, from what the calls answered
 
+-- once all matches are finished the marks of four clubs are final ones
 pub final_marks : (ms : List Match) (order : List ℕ) (a b c d : Mark) → length order ≡ 4 → list_all has_finished ms ≡ true →
     a ≡ final_mark order (get_or order 0 0) → b ≡ final_mark order (get_or order 1 0) → c ≡ final_mark order (get_or order 2 0) → d
     ≡ final_mark order (get_or order 3 0) →

@@ -12,7 +12,7 @@ use Rattle.ucl_order.proofs.KeysFit.{FitsKeys}
 use Rattle.ucl_order.proofs.Classes.{order_permutes}
 use Rattle.ucl_order.proofs.Slots.{all-four, pairings, slots}
 
--- how many matches, and how many points, a club has by one match
+-- how many matches a club has by one match: 1 if it plays in it, else 0
 unfoldable pub plays : Option Appearance → ℕ
 plays None = 0
 plays (Some a) = 1
@@ -22,23 +22,27 @@ unfoldable pub gains : Option Appearance → ℕ
 gains None = 0
 gains (Some a) = 3 * cond (is_won a) 1 0 + cond (is_drawn a) 1 0
 
--- with one match more in front a club has played, and won, so much more
+-- with one appearance in front, if there is one, a club has played one match more
 played_one : (o : Option Appearance) (games : List Appearance) → length (cons_option o games) ≡ plays o + length games
 unfolding plays
 played_one o games = search arith
 
+-- with one match in front a club has played as many more as it plays of this match
 pub played-cons : (club : ℕ) (m : Match) (ms : List Match) → played club (m ∷ ms) ≡ plays (seen_by club m) + played club ms
 played-cons club m ms = played_one (seen_by club m) (appearances club ms)
 
+-- with one appearance in front, if there is one, a club has so many points more as the appearance gives
 points_one : (o : Option Appearance) (games : List Appearance) →
     3 * count_by is_won (cons_option o games) + count_by is_drawn (cons_option o games) ≡ gains o + (3 * count_by is_won games + count_by is_drawn games)
 unfolding gains
 points_one None games = omega arith
 points_one (Some a) games = omega (arith, sum_by-cons (λ x. cond (is_won x) 1 0) a games, sum_by-cons (λ x. cond (is_drawn x) 1 0) a games)
 
+-- with one match in front a club has so many points more as this match gives it
 pub points-cons : (club : ℕ) (m : Match) (ms : List Match) → points club (m ∷ ms) ≡ gains (seen_by club m) + points club ms
 points-cons club m ms = points_one (seen_by club m) (appearances club ms)
 
+-- a win or a draw, but not both, gives three points at most
 three_at_most : (won drawn : Bool) → (drawn ≡ true → won ≡ false) → 3 * cond won 1 0 + cond drawn 1 0 ≤ 3
 three_at_most won drawn h = search (arith, h)
 
@@ -48,6 +52,7 @@ unfolding gains plays
 gains-le None = omega arith
 gains-le (Some a) = three_at_most (is_won a) (is_drawn a) (λ e. grind (arith, nat_tests))
 
+-- a club has at most three points for each match that it played
 pub points-le : (club : ℕ) (ms : List Match) → points club ms ≤ 3 * played club ms
 points-le club [] = omega arith
 points-le club (m ∷ ms) = omega (arith, played-cons club m ms, points-cons club m ms, gains-le (seen_by club m), points-le club ms)
@@ -84,15 +89,18 @@ pub record AreFew (a : Appearance) : Type 0 where
 few_one : (o : Option Appearance) (games : List Appearance) → ((a : Appearance) → o ≡ Some a → AreFew a) → All AreFew games → All AreFew (cons_option o games)
 few_one o games h rest = search (arith, All-cons AreFew, h, rest)
 
+-- if the appearances of both clubs of a match have numbers within the limits, so has the one that is seen
 seen_parts : (at_home away : Bool) (h v a : Appearance) → (if at_home then Some h else (if away then Some v else None)) ≡ Some a → AreFew h → AreFew v → AreFew a
 seen_parts at_home away h v a e few_h few_v = search arith
 
+-- what a club sees of a match with a valid score has numbers within the limits
 seen_few : (club : ℕ) (m : Match) (a : Appearance) → HasScore m → seen_by club m ≡ Some a → AreFew a
 seen_few club m a h e =
     seen_parts (m.home == club) (m.away == club) _ _ a e
     (record { scored = h.home_goals; conceded = h.away_goals; yellows = h.home_yellows; expulsions = h.home_expulsions })
     (record { scored = h.away_goals; conceded = h.home_goals; yellows = h.away_yellows; expulsions = h.away_expulsions })
 
+-- in matches with valid scores all appearances of a club have numbers within the limits
 pub all_few : (club : ℕ) (ms : List Match) → All HasScore ms → All AreFew (appearances club ms)
 all_few club [] h = All-nil AreFew
 all_few club (m ∷ ms) h =
@@ -103,13 +111,16 @@ unfoldable visits : Option Appearance → ℕ
 visits None = 0
 visits (Some a) = cond a.is_away 1 0
 
+-- with one appearance in front, if there is one, a club has an away match more if that is one
 visits_one : (o : Option Appearance) (games : List Appearance) → length (filter (λ a. a.is_away) (cons_option o games)) ≡ visits o + length (filter (λ a. a.is_away) games)
 unfolding visits
 visits_one o games = search arith
 
+-- with one match in front a club has an away match more if it plays this one away
 visits-cons : (club : ℕ) (m : Match) (ms : List Match) → length (away_matches club (m ∷ ms)) ≡ visits (seen_by club m) + length (away_matches club ms)
 visits-cons club m ms = visits_one (seen_by club m) (appearances club ms)
 
+-- among some of the matches a club has no more away matches than among all
 visits-filter : (p : Match → Bool) (club : ℕ) (ms : List Match) → length (away_matches club (filter p ms)) ≤ length (away_matches club ms)
 visits-filter p club ms = filter-less (λ l. length (away_matches club l)) (λ m. visits (seen_by club m)) (visits-cons club) p ms
 
@@ -152,7 +163,7 @@ group_of_board board valid = record {
   three_away = λ club slot. omega (arith, three board club slot);
 }
 
--- some of them
+-- some of the matches of a group are matches of a group
 pub group_filter : (p : Match → Bool) (ms : List Match) → AreOfGroup ms → AreOfGroup (filter p ms)
 group_filter p ms group = record {
   few = omega (arith, group.few, length-filter p ms, count_by-le-length p ms);
@@ -179,7 +190,7 @@ module _ (ms : List Match) (group : AreOfGroup ms) where
   pub tied_fit : (keys : List ℕ) → All FitsFields (tied_results ms keys)
   tied_fit keys = All-map FitsFields (λ c. results_of c (among (tied_with keys c) ms)) all_clubs (λ k d h. fits_among _ _ (slots k d h))
 
--- those of a board that are in play or finished
+-- the matches of a board that are in play or finished are matches of a group, if all scores are valid
 pub group_started : (board : List ℕ) → All HasScore (matches_of board) → AreOfGroup (started_of board)
 group_started board valid = group_filter has_started (matches_of board) (group_of_board board valid)
 

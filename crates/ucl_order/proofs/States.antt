@@ -13,9 +13,11 @@ use Rattle.ucl_order.proofs.Slots.{slots}
 
 -- One match more at the end. --
 
+-- a match that passes the test, put at the end, is at the end of those that pass
 pub filter_taken : (p : Match → Bool) (ms : List Match) (m : Match) → p m ≡ true → filter p (ms ++ m ∷ []) ≡ filter p ms ++ m ∷ []
 filter_taken p ms m e = rw (filter-append p ms (m ∷ []), e)
 
+-- a match that fails the test, put at the end, changes nothing of those that pass
 pub filter_left : (p : Match → Bool) (ms : List Match) (m : Match) → p m ≡ false → filter p (ms ++ m ∷ []) ≡ filter p ms
 filter_left p ms m e = rw (filter-append p ms (m ∷ []), e, append-nil (filter p ms))
 
@@ -27,6 +29,7 @@ counted_more ms m true new begun over e = rw (e, filter_left is_under_way ms m (
 counted_more ms m false new begun over e = rw
     (e, filter_taken is_under_way ms m (rw (begun, over) refl), filter_left has_finished ms m over)
 
+-- place 1 of the counted results has those of the finished matches, place 0 those of the matches in play
 pub counted_at : (ms : List Match) (over : Bool) (none : List Results) → get_or (counted ms) (cond over 1 0) none
     ≡ results_of_clubs (cond over (finished ms) (under_way ms))
 counted_at ms true none = refl
@@ -48,26 +51,31 @@ together a b = record {
 
 -- Those in play and those that are finished are all that have begun. --
 
+-- the appearances with one in front, if there is one, are as many as that and the others together
 length_one : (o : Option Appearance) (games : List Appearance) → length (cons_option o games) ≡ length (cons_option o []) + length games
 length_one None games = omega arith
 length_one (Some a) games = omega arith
 
+-- a sum over the appearances with one in front, if there is one, is the sum over that and the sum over the others
 sum_one : (f : Appearance → ℕ) (o : Option Appearance) (games : List Appearance) → sum_by f (cons_option o games)
     ≡ sum_by f (cons_option o []) + sum_by f games
 sum_one f None games = omega arith
 sum_one f (Some a) games = omega (arith, sum_by-cons f a games, sum_by-cons f a [])
 
+-- a sum over appearances, the first of them only if it is away, is its part and the sum over the others
 away_at : (away : Bool) (f : Appearance → ℕ) (a : Appearance) (games : List Appearance) → sum_by f (cond away (a ∷ games) games)
     ≡ sum_by f (cond away (a ∷ []) []) + sum_by f games
 away_at true f a games = sum_one f (Some a) games
 away_at false f a games = omega arith
 
+-- a sum over away appearances with one in front, if there is one, is the sum over that if away and the sum over the others
 away_one : (f : Appearance → ℕ) (o : Option Appearance) (games : List Appearance) →
     sum_by f (filter (λ a. a.is_away) (cons_option o games))
     ≡ sum_by f (filter (λ a. a.is_away) (cons_option o [])) + sum_by f (filter (λ a. a.is_away) games)
 away_one f None games = omega arith
 away_one f (Some a) games = away_at a.is_away f a (filter (λ a. a.is_away) games)
 
+-- the totals of the appearances with one in front, if there is one, are those of that and those of the others together
 totals_one : (o : Option Appearance) (games : List Appearance) → totals (cons_option o games)
     ≡ together (totals (cons_option o [])) (totals games)
 unfolding totals
@@ -92,6 +100,7 @@ part_one x p q true false h = search arith
 part_one x p q false true h = absurd (true≢false (sym (h refl)))
 part_one x p q false false h = refl
 
+-- with one match in front, if it is chosen, the results of a club in the chosen matches have those of this one added
 in_front : (p : Match → Bool) (club : ℕ) (m : Match) (ms : List Match) → results_of club (filter p (m ∷ ms))
     ≡ cond (p m) (together (totals (cons_option (seen_by club m) [])) (results_of club (filter p ms))) (results_of club (filter p ms))
 in_front p club m ms = elim (cases_Bool (p m)) [
@@ -99,12 +108,15 @@ in_front p club m ms = elim (cases_Bool (p m)) [
   | inr fails ↦ rw fails refl
 ]
 
+-- results that are equal in pairs are equal together
 together_same : {a b c d : Results} → a ≡ b → c ≡ d → together a c ≡ together b d
 together_same e f = rw (e, f)
 
+-- a finished match has begun
 ended_begun : (m : Match) → has_finished m ≡ true → has_started m ≡ true
 ended_begun m h = search arith
 
+-- the results of a club in the matches that have begun are those in play and those in finished ones together
 pub parts : (club : ℕ) (ms : List Match)
     → results_of club (filter has_started ms)
     ≡ together (results_of club (filter is_under_way ms)) (results_of club (filter has_finished ms))
@@ -119,10 +131,12 @@ parts club (m ∷ ms) =
 
 -- All are finished just where each club has played its six. --
 
+-- where all matches are finished, no club has one left to play
 none-left : (ms : List Match) (club : ℕ) → list_all has_finished ms ≡ true → played club (unfinished ms) ≡ 0
 none-left [] club h = refl
 none-left (m ∷ ms) club h = let parts = and_parts (has_finished m) (list_all has_finished ms) h in rw parts.0 (none-left ms club parts.1)
 
+-- where no club has a match left to play, all matches are finished
 all-over : (ms : List Match) → All IsPairing ms → ((club : ℕ) → IsSlot club → played club (unfinished ms) ≡ 0) → list_all has_finished ms
     ≡ true
 unfolding plays
@@ -138,6 +152,7 @@ all-over (m ∷ ms) pairs none =
           absurd (omega arith)
     ]
 
+-- of six matches a club has finished all six just if it has none left to play
 six-left : (ms : List Match) (club : ℕ) → IsSlot club → HasSixEach ms → (played club (finished ms) ≡ 6 → played club (unfinished ms) ≡ 0)
     × (played club (unfinished ms) ≡ 0 → played club (finished ms) ≡ 6)
 six-left ms club slot six = (

@@ -18,10 +18,12 @@ pub match_words : (h : List Entry) (n : ℕ) → take 12 (words_after h n) ≡ b
 unfolding board_of
 match_words h n = refl
 
+-- the last of the thirteen words of a board is the number of its reporters
 pub last_word : (h : List Entry) (n : ℕ) → slice_index (words_after h n) 12 ≡ n
 unfolding board_of
 last_word h n = refl
 
+-- the words of a board with one reporter more are the words after the same history with n + 1 reporters
 more_words : (h : List Entry) (n : ℕ) → with_one_more (words_after h n) ≡ words_after h (n + 1)
 unfolding board_of
 more_words h n = refl
@@ -30,6 +32,7 @@ more_words h n = refl
 entry_differs : (h : List Entry) (n : ℕ) (e : Entry) → IsLegal (followed_by h e) → words_after h n ≢ words_after (followed_by h e) n
 entry_differs h n e legal same = search (arith, match_words h n, match_words (followed_by h e) n, one_word h e legal)
 
+-- the words of a board with n and with n + 1 reporters differ
 reporter_differs : (h : List Entry) (n : ℕ) → words_after h n ≢ words_after h (n + 1)
 reporter_differs h n same = let e : n ≡ n + 1 = sym (last_word h n) ∙ (ap (λ (l : List ℕ). slice_index l 12) same ∙ last_word h (n + 1)) in omega arith
 
@@ -84,6 +87,7 @@ module _ (x : List ℕ) (views : List View) (r : CellInvariant x views) (seat : 
 pub looks : (seat : ℕ) (v : View) → IsSome v.share → Turns CellInvariant seat v (λ x. x) LooksOnly
 looks seat v acts x views r here = load x views r seat v here acts false
 
+-- the cell allows a pass with a share a load of all words that is a reading
 pub reads : (seat : ℕ) (v : View) → IsSome v.share → Turns CellInvariant seat v (λ x. x) LooksAndShows
 reads seat v acts x views r here = load x views r seat v here acts true
 
@@ -116,9 +120,11 @@ opened_occurs = (0, record { words = words_after [] 0; views = first_pass ∷ []
 pub seconds : (seat : ℕ) (v : View) → Forks CellInvariant seat v (left_pass v) (second_pass v)
 seconds seat v x views r here = seconds_keep words_after IsLegalStep x views r seat v here
 
+-- the making of a note of a pass keeps the invariant
 pub notes : (seat : ℕ) (v : View) → Forks CellInvariant seat v v (note_pass v)
 notes seat v x views r here = notes_keep words_after IsLegalStep x views r seat v here
 
+-- the taking in of a note by a pass keeps the invariant
 pub joins : (seat : ℕ) (v : View) (other : ℕ) (a : View) → Merges CellInvariant seat v other (note_pass a) (told_pass v (note_pass a)) new_pass
 joins seat v other a x views r here apart there = joins_keep words_after IsLegalStep x views r seat v here other (note_pass a) apart there refl
 

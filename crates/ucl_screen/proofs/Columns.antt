@@ -9,9 +9,11 @@ use Rattle.ucl_screen.proofs.Common.{◌<◌, ◌^◌, ◌∙◌, ◌∷◌, ◌
 wide_left : (width : ℕ) (text : List ℕ) → length text ≤ width → length (left width text) ≡ width
 wide_left width text fits = omega (arith, length-append text (replicate (width - length text) 32), length-replicate {A = ℕ} (width - length text) 32)
 
+-- a text padded on the left to a width that it fits has that width
 wide_right : (width : ℕ) (text : List ℕ) → length text ≤ width → length (right width text) ≡ width
 wide_right width text fits = omega (arith, length-append (replicate (width - length text) 32) text, length-replicate {A = ℕ} (width - length text) 32)
 
+-- a number below ten to the power of a width, and of 64 bits, padded to the width has that width
 wide_number : (width n : ℕ) → 0 < width → n < 10 ^ width → n < 2 ^ 64 → length (right width (decimal n)) ≡ width
 wide_number width n some fits word = wide_right width (decimal n) (length-decimal-le width n some fits word)
 
@@ -20,9 +22,11 @@ signed : (b : Bool) (m n : ℕ) → m ≤ 378 → n ≤ 378 → length (cond b (
 signed true m n hm hn = let l = length-decimal-le 4 m (omega arith) (omega arith) (omega arith) in omega arith
 signed false m n hm hn = let l = length-decimal-le 4 n (omega arith) (omega arith) (omega arith) in omega arith
 
+-- a goal difference of at most 378 goals on either side fills five columns
 wide_difference : (scored conceded : ℕ) → scored ≤ 378 → conceded ≤ 378 → length (right 5 (difference_text scored conceded)) ≡ 5
 wide_difference scored conceded s c = wide_right 5 (difference_text scored conceded) (signed (nat_le conceded scored) (scored - conceded) (conceded - scored) (omega arith) (omega arith))
 
+-- a mark fills three columns
 wide_mark : (mark : Mark) → length (mark_text mark) ≡ 3
 wide_mark mark = search arith
 
@@ -51,12 +55,15 @@ wide_line row name w place fits =
     let k = wide_number 4 row.points (omega arith) (omega arith) (omega arith) in
     omega arith
 
+-- the line of column names and each line of the table have 53 columns and a line feed
 pub lines_wide : LinesHave53Columns
 lines_wide = record { names = refl; places = wide_line }
 
+-- a printed byte is below 128
 below : (b : ℕ) → is_printed b ≡ true → b < 128
 below b h = let e = (and_parts (nat_le 0x20 b) (nat_le b 0x7e) h).1 in grind (arith, nat_tests)
 
+-- printed bytes are ASCII
 printed_ascii : (bs : List ℕ) → list_all is_printed bs ≡ true → IsAscii bs
 printed_ascii [] h = IsAscii-nil
 printed_ascii (b ∷ bs) h = let e = and_parts (is_printed b) (list_all is_printed bs) h in IsAscii-cons b bs (below b e.0) (printed_ascii bs e.1)
@@ -65,6 +72,7 @@ printed_ascii (b ∷ bs) h = let e = and_parts (is_printed b) (list_all is_print
 pub printed_utf8 : (bs : List ℕ) → list_all is_printed bs ≡ true → IsUtf8 bs
 printed_utf8 bs h = IsUtf8-from_ascii bs (printed_ascii bs h)
 
+-- the name of a club is UTF-8
 pub name_text : (name : List ℕ) → is_name name ≡ true → IsUtf8 name
 name_text name h = printed_utf8 name (and_parts _ _ h).1
 
@@ -72,6 +80,7 @@ name_text name h = printed_utf8 name (and_parts _ _ h).1
 pub one_part : (before : List ℕ) → before ++ [] ++ [] ≡ before
 one_part before = append-nil (before ++ []) ∙ append-nil before
 
+-- a line with nothing after its number is the text before it and the number
 pub two_parts : (before number : List ℕ) → before ++ number ++ [] ≡ before ++ number
 two_parts before number = append-nil (before ++ number)
 

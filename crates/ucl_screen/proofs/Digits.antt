@@ -7,6 +7,7 @@ use Rattle.ucl_screen.proofs.Common.{pow-suc, refl, true, zero, ℕ, ◌*◌, �
 pub number-is : (most : ℕ) (text : List ℕ) → 1 ≤ length text → length text ≤ most → number most text ≡ digits_after 0 text
 number-is most text a b = grind (arith, nat_tests)
 
+-- a byte from 48 to 57 is a digit
 digit-true : (b : ℕ) → 48 ≤ b → b ≤ 57 → is_digit b ≡ true
 digit-true b p q = grind (arith, nat_tests)
 
@@ -16,21 +17,26 @@ pub more-digits : (n i : ℕ) (text : List ℕ) → i < length text → 48 ≤ g
 unfolding digits_after
 more-digits n i text h p q = rw (drop-cons text i 0, add-one i, digit-true _ p q) refl
 
+-- a byte below 48 or above 57 is no digit
 other-byte : (b : ℕ) → (b < 48) ⊎ (57 < b) → is_digit b ≡ false
 other-byte b (inl low) = grind (arith, nat_tests)
 other-byte b (inr high) = grind (arith, nat_tests)
 
+-- a text that has, from place i on, a byte that is no digit gives no number
 pub no-digit : (n i : ℕ) (text : List ℕ) → i < length text → (get_or text i 0 < 48) ⊎ (57 < get_or text i 0) → digits_after n (drop i text) ≡ None
 unfolding digits_after
 no-digit n i text h other = rw (drop-cons text i 0, other-byte _ other) refl
 
+-- where no byte is left from place i on, the number is n, that of the digits before
 pub no-more : (n i : ℕ) (text : List ℕ) → length text ≤ i → digits_after n (drop i text) ≡ Some n
 unfolding digits_after
 no-more n i text h = let e : drop i text ≡ [] = grind (arith, common_steps) in rw e refl
 
+-- a text that the test does not find empty has a byte
 pub nonempty : (text : List ℕ) (r : Bool) → r ≡ (length text == 0) → r ≡ false → 1 ≤ length text
 nonempty text r e f = grind (arith, nat_tests)
 
+-- a number of i digits with one digit more is a number of i + 1 digits
 pub one-more-digit : (n i d : ℕ) → n < 10 ^ i → d ≤ 9 → 10 * n + d < 10 ^ (i + 1)
 one-more-digit n i d h k = rw (add-one i, pow-suc 10 i) (omega arith)
 
@@ -44,14 +50,17 @@ pub more-hex : (n i d : ℕ) (text : List ℕ) → i < length text → hex_digit
 unfolding hex_after
 more-hex n i d text h e = rw (drop-cons text i 0, add-one i, e) refl
 
+-- a text that has, from place i on, a byte that is no hexadecimal digit gives no number
 pub no-hex : (n i : ℕ) (text : List ℕ) → i < length text → hex_digit (get_or text i 0) ≡ None → hex_after n (drop i text) ≡ None
 unfolding hex_after
 no-hex n i text h e = rw (drop-cons text i 0, e) refl
 
+-- where no byte is left from place i on, the number is n, that of the hexadecimal digits before
 pub no-more-hex : (n i : ℕ) (text : List ℕ) → length text ≤ i → hex_after n (drop i text) ≡ Some n
 unfolding hex_after
 no-more-hex n i text h = let e : drop i text ≡ [] = grind (arith, common_steps) in rw e refl
 
+-- a number of i hexadecimal digits with one digit more is a number of i + 1 of them
 pub one-more-hex : (n i d : ℕ) → n < 16 ^ i → d < 16 → 16 * n + d < 16 ^ (i + 1)
 one-more-hex n i d h k = rw (add-one i, pow-suc 16 i) (omega arith)
 

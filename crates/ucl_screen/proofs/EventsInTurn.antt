@@ -7,6 +7,7 @@ use Rattle.ucl_board.specs.History.{accepted_of, board_of}
 use Rattle.ucl_screen.specs.Script.{first_event_row}
 unfoldable use Rattle.ucl_screen.specs.Events.{each_in_turn}
 
+-- from its end on a list has nothing left
 pub past : {X : Type 0} (i : ℕ) (xs : List X) → length xs ≤ i → drop i xs ≡ []
 past i xs h = grind (arith, common_steps)
 
@@ -47,6 +48,7 @@ module _ {X : Type 0} (each : ℕ → List Entry → NightEvent → List X) (eve
   entered-all h =
       let none = past i events h in (sym (append-nil given) ∙ (rw none at so_far.given_is), sym so_far.board_is.words_are ∙ ap board_of (rw none at so_far.entries))
 
+-- place `n - 1` of the match numbers is n, for a match from 1 to 12
 pub match-numbered : (n : ℕ) → 1 ≤ n → n ≤ 12 → get_or match_numbers (n - 1) 0 ≡ n
 match-numbered n low high = each_match (λ g. get_or match_numbers (g - 1) 0 ≡ g) refl refl refl refl refl refl refl refl refl refl refl refl n (low, high)
 

@@ -9,7 +9,7 @@ use Rattle.std.specs.Fmt.{char_count, digit_glyph, digits, digits_onto, padded_i
 use Rattle.ucl_screen.specs.Numbers.{hex_digit, hex_digits, hex_word}
 unfoldable use Rattle.ucl_screen.specs.Numbers.{hex_after}
 
--- the last k digits of a number, before others
+-- the last k hexadecimal digits of the number, in front of the bytes `rest`
 abbrev pub low : ℕ → ℕ → List ℕ → List ℕ
 low zero n rest = rest
 low (suc k) n rest = low k (n / 16) (digit_glyph false (n % 16) ∷ rest)
@@ -19,6 +19,7 @@ pub low-step : (k n : ℕ) (rest : List ℕ) → 0 < k → low k n rest ≡ low 
 low-step zero n rest h = absurd (omega arith)
 low-step (suc k) n rest h = let e : suc k - 1 ≡ k = omega arith in rw e refl
 
+-- one zero after k zeros is one zero before k zeros
 zeros-then : (k : ℕ) (rest : List ℕ) → replicate k 48 ++ 48 ∷ rest ≡ 48 ∷ (replicate k 48 ++ rest)
 zeros-then zero rest = refl
 zeros-then (suc k) rest = ap (λ (l : List ℕ). 48 ∷ l) (zeros-then k rest)
@@ -28,7 +29,7 @@ low-zero : (k : ℕ) (rest : List ℕ) → low k 0 rest ≡ replicate k 48 ++ re
 low-zero zero rest = refl
 low-zero (suc k) rest = low-zero k (48 ∷ rest) ∙ zeros-then k rest
 
--- the digits of a number before others, and as many zeros before them as make them so many
+-- the text is the hexadecimal digits of n and then `rest`; with zeros before them they are the last k + 1 digits of n
 record Spelled (k n : ℕ) (rest text : List ℕ) : Type 0 where
   spelt : List ℕ
   same : text ≡ spelt ++ rest
@@ -67,6 +68,7 @@ spelled (suc k) (suc j) n rest h small = elim (cases_Bool (n / 16 == 0)) [
       }
 ]
 
+-- hexadecimal digits with room for 64 of them are those that the standard library defines
 digits-at : (k n : ℕ) → k ≡ 64 → digits_onto k 16 false n [] ≡ digits 16 false n
 unfolding digits
 digits-at k n e = rw e refl
@@ -103,6 +105,7 @@ glyph-back : (d : ℕ) → d < 16 → hex_digit (digit_glyph false d) ≡ Some d
 glyph-back (suc (suc (suc (suc (suc (suc (suc (suc (suc (suc (suc (suc (suc (suc (suc (suc d)))))))))))))))) h = absurd (omega arith)
 glyph-back _ _ = refl
 
+-- digits read after a, and then the last one, make a times the greater power and the number
 spell : (before last power next n : ℕ) → next ≡ 16 * power → n ≡ 16 * before + last → (a : ℕ) → 16 * (a * power + before) + last ≡ a * next + n
 spell before last power next n e f a = rw (e, f) (omega arith)
 
@@ -116,10 +119,12 @@ low-back (suc k) n a rest h =
     let whole = spell (n / 16) (n % 16) (16 ^ k) (16 ^ suc k) n p parts a in
     low-back k (n / 16) a (digit_glyph false (n % 16) ∷ rest) (omega arith) ∙ rw (glyph-back (n % 16) (omega arith), whole) refl
 
+-- the last k digits of a number before others are k more bytes
 pub low-length : (k n : ℕ) (rest : List ℕ) → length (low k n rest) ≡ k + length rest
 low-length zero n rest = omega arith
 low-length (suc k) n rest = low-length k (n / 16) (digit_glyph false (n % 16) ∷ rest) ∙ omega arith
 
+-- a text of sixteen bytes whose hexadecimal digits give n is read as the word n
 of-sixteen : (text : List ℕ) (n : ℕ) → length text ≡ 16 → hex_after 0 text ≡ Some n → hex_word text ≡ Some n
 of-sixteen text n e h = rw (eq-eqb (length text) 16 e) h
 

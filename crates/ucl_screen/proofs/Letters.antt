@@ -8,14 +8,17 @@ pub is_letter : (text : List ℕ) → 1 ≤ length text → length text < 2 → 
 is_letter (x ∷ []) some one group = rw (le-leb 65 x group.0, le-leb x 72 group.1) refl
 is_letter text some one group = absurd (omega arith)
 
+-- an empty text gives no letter of a group
 pub no_letter : (text : List ℕ) → length text < 1 → None ≡ letter_in text
 no_letter [] none = refl
 no_letter (x ∷ xs) none = absurd (omega arith)
 
+-- a text of two bytes or more gives no letter of a group
 pub many_letters : (text : List ℕ) → 2 ≤ length text → None ≡ letter_in text
 many_letters (x ∷ y ∷ ys) many = refl
 many_letters text many = absurd (omega arith)
 
+-- a text of one byte that is no letter of a group gives none
 pub other_letter : (text : List ℕ) → 1 ≤ length text → length text < 2 → (IsGroup (slice_index_or text 0 0) → ⊥) → None ≡ letter_in text
 other_letter [] some one other = absurd (omega arith)
 other_letter (x ∷ y ∷ ys) some one other = absurd (omega arith)

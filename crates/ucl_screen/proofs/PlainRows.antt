@@ -26,9 +26,11 @@ record Joining (b : ℕ) : Type 0 where
   comma : (b == 44) ≡ false
   end : is_line_end b ≡ false
 
+-- a byte that the test takes for one that goes on with a bare field is no comma, and ends no line
 joining : (b : ℕ) → is_joining b ≡ true → Joining b
 joining b h = record { comma = grind (arith, nat_tests, h); end = grind (arith, nat_tests, h) }
 
+-- bytes of a bare field lead the parser of `csv` from within the field to within the field
 bare-run : (xs : List ℕ) → list_all is_joining xs ≡ true → Runs default_config st.InField xs
 unfolding Runs
 bare-run [] h = tt
@@ -37,6 +39,7 @@ bare-run (b ∷ xs) h =
     let j = joining b p.0 in
     (rw (j.comma, j.end) refl, bare-run xs p.1)
 
+-- bytes that are no quotes lead the parser of `csv` from within a field in quotes to within it
 quoted-run : (xs : List ℕ) → list_all is_quotable xs ≡ true → Runs default_config st.InQuoted xs
 unfolding Runs
 quoted-run [] h = tt
@@ -45,6 +48,7 @@ quoted-run (b ∷ xs) h =
     let bare : (b == 34) ≡ false = grind (arith, nat_tests) in
     (rw bare refl, quoted-run xs p.1)
 
+-- a text that begins with no quote begins with the field of its bytes up to a place, if none of them ends the field
 pub bare_field : (text : List ℕ) (at : ℕ) → (get_or text 0 0 == 34) ≡ false → list_all is_joining (take at text) ≡ true → BeginsWithField text (take at text) (drop at text)
 unfolding next_record
 bare_field (b ∷ text) (suc at) bare h =
@@ -75,6 +79,7 @@ quoted_field (b ∷ text) at is h inside closed = record {
 }
 quoted_field [] at is h inside closed = absurd (omega arith)
 
+-- where a comma follows a field with which a text begins, the text begins with this field before the comma
 pub comma_behind : (text field rest : List ℕ) → BeginsWithField text field rest → (get_or rest 0 0 == 44) ≡ true → IsFieldBefore text field (drop 1 rest)
 unfolding next_record
 comma_behind text field (b ∷ rest) f is = record { reads = λ tail fields. f.reads tail fields ∙ rw (eqb-true b 44 is, f.goes_on 44 refl) refl }
@@ -82,9 +87,11 @@ comma_behind text field [] f is = cc is
 
 -- ---- ends of lines
 
+-- within a field a byte that ends a line ends the record
 line-end : (b : ℕ) → is_line_end b ≡ true → in_field default_config b ≡ (after_end term.CRLF b, act.EndRecord)
 line-end b h = elim (cases_Bool (b == 44)) [ inl y ↦ absurd (grind (arith, nat_tests)) | inr n ↦ rw (n, h) refl ]
 
+-- after an end of a line the parser is between two records
 between : (b : ℕ) → ends_at_end (after_end term.CRLF b) ≡ false
 between b = elim (cases_Bool (b == 13)) [ inl y ↦ rw y refl | inr n ↦ rw n refl ]
 
@@ -96,10 +103,12 @@ same-rows s z xs ys j k h = by (next_record default_config z [] [] ys) refl wher
   by None e = rows-none s xs (h ∙ e) ∙ sym (rows-none z ys e)
   by (Some p) e = rows-next s xs p j (h ∙ e) ∙ sym (rows-next z ys p k e)
 
+-- the records of a text are the rows that a parser reads of it from the start of a record
 whole : (text : List ℕ) → records default_config text ≡ rows_from st.StartRecord (Some text)
 unfolding rows_from
 whole text = refl
 
+-- an end of a line at the start of a record is passed over
 skips : (b : ℕ) (text : List ℕ) → is_line_end b ≡ true → next_record default_config st.StartRecord [] [] (b ∷ text) ≡ next_record default_config st.StartRecord [] [] text
 unfolding next_record
 skips b text h = rw h refl
@@ -114,20 +123,24 @@ after-return (b ∷ text) = elim (cases_Bool (b == 10)) [ inl y ↦ rw (eqb-true
 skip-end : (b : ℕ) (text : List ℕ) → is_line_end b ≡ true → records default_config (b ∷ text) ≡ records default_config text
 skip-end b text h = whole (b ∷ text) ∙ same-rows st.StartRecord st.StartRecord (b ∷ text) text refl refl (skips b text h) ∙ sym (whole text)
 
+-- after an end of a line, the rows of the rest are the records of the text with this byte in front
 behind-end : (b : ℕ) (text : List ℕ) → is_line_end b ≡ true → rows_from (after_end term.CRLF b) (Some text) ≡ records default_config (b ∷ text)
 behind-end b text h = same-rows (after_end term.CRLF b) st.StartRecord text (b ∷ text) (between b) refl (by ∙ sym (skips b text h)) ∙ sym (whole (b ∷ text)) where
   by : next_record default_config (after_end term.CRLF b) [] [] text ≡ next_record default_config st.StartRecord [] [] text
   by = elim (cases_Bool (b == 13)) [ inl y ↦ rw y (after-return text) | inr n ↦ rw n refl ]
 
+-- ends of lines before a text change nothing in its records
 skip-ends : (ends text : List ℕ) → list_all is_line_end ends ≡ true → records default_config (ends ++ text) ≡ records default_config text
 skip-ends [] text h = refl
 skip-ends (b ∷ ends) text h = let p = and_parts (is_line_end b) (list_all is_line_end ends) h in skip-end b (ends ++ text) p.0 ∙ skip-ends ends text p.1
 
+-- a text that has only ends of lines up to a place has the records of its rest from there
 without-ends : (text tail : List ℕ) (at : ℕ) → list_all is_line_end (take at text) ≡ true → records default_config (text ++ tail) ≡ records default_config (drop at text ++ tail)
 without-ends text tail at h = ap (records default_config) (cut text tail at) ∙ skip-ends (take at text) (drop at text ++ tail) h
 
 -- ---- the last field
 
+-- where a field ends at the end of a line, or of the text, the parser has read the row with this field, and the rest follows
 row-ends : (s : State) (fields : Fields) (field rest : List ℕ) → ((b : ℕ) → (b == 34) ≡ false → step default_config s b ≡ in_field default_config b) → ends_at_end s ≡ true → AtLineEnd rest
     → (p : Read) × (next_record default_config s fields field rest ≡ Some p) × (p.0 ≡ fields ++ field ∷ []) × (rows_from p.1 (Some p.2) ≡ records default_config rest)
 unfolding next_record
@@ -136,10 +149,12 @@ row-ends s fields field (b ∷ rest) goes_on may_end h =
     let bare : (b == 34) ≡ false = grind (arith, nat_tests, h) in
     ((fields ++ field ∷ [], after_end term.CRLF b, rest), rw (goes_on b bare, line-end b h) refl, refl, behind-end b rest h)
 
+-- if two texts are each empty or begin with an end of a line, so is, or does, the one followed by the other
 line-end-of : (rest tail : List ℕ) → AtLineEnd rest → AtLineEnd tail → AtLineEnd (rest ++ tail)
 line-end-of [] tail h k = k
 line-end-of (b ∷ rest) tail h k = h
 
+-- where an end of a line, or of the text, follows a field with which a text begins, the field is the last of its row
 pub row_end : {text field rest : List ℕ} → BeginsWithField text field rest → AtLineEnd rest → IsLastField text field rest
 row_end {rest} f h = record {
   at_end = h;
@@ -150,14 +165,17 @@ row_end {rest} f h = record {
 
 -- ---- a row
 
+-- a text that begins with no end of a line begins a row of no fields yet
 pub no_field : (text : List ℕ) → is_line_end (get_or text 0 10) ≡ false → BeginsRow text [] text
 unfolding next_record
 no_field [] h = cc h
 no_field (b ∷ text) h = record { reads = λ tail. rw h refl }
 
+-- a text that begins a row and goes on with a field before a comma begins a row with this field more
 pub one_more : {text rest field behind : List ℕ} {fields : Fields} → BeginsRow text fields rest → IsFieldBefore rest field behind → BeginsRow text (fields ++ field ∷ []) behind
 one_more {fields} b f = record { reads = λ tail. b.reads tail ∙ f.reads tail fields }
 
+-- a text that begins a row and goes on with the last field begins with the row of all these fields
 pub with_last : {text rest field behind : List ℕ} {fields : Fields} → BeginsRow text fields rest → IsLastField rest field behind → BeginsWithRow text (fields ++ field ∷ []) behind
 with_last {text} {fields} b f = record {
   at_end = f.at_end;
@@ -166,23 +184,28 @@ with_last {text} {fields} b f = record {
       whole (text ++ tail) ∙ rows-next st.StartRecord (text ++ tail) p.0 refl (b.reads tail ∙ p.1) ∙ rw (p.2, p.3) refl;
 }
 
+-- a row that does not have four fields is no row of four
 pub no_four : (row : Fields) → length row ≢ 4 → four_of row ≡ None
 no_four (a ∷ b ∷ c ∷ d ∷ []) h = absurd (h refl)
 no_four _ h = refl
 
 -- ---- ends of lines before a row
 
+-- a text of ends of lines alone changes nothing in the records of what follows it
 pub all_ends : (text : List ℕ) (at : ℕ) → at ≡ length text → list_all is_line_end (take at text) ≡ true → (tail : List ℕ) → records default_config (text ++ tail) ≡ records default_config tail
 all_ends text at is h tail = skip-ends text tail (rw (take_all at text (omega arith)) at h)
 
+-- where the byte at a place of a text ends no line, the rest from there begins with no end of a line
 pub starts_row : (text : List ℕ) (at : ℕ) → at < length text → is_line_end (get_or text at 0) ≡ false → is_line_end (get_or (drop at text) 0 10) ≡ false
 starts_row text at inside h = rw (drop_more text at 0 inside) h
 
+-- a text with ends of lines before a row begins with this row
 pub behind_ends : {text rest : List ℕ} {row : Fields} (at : ℕ) → list_all is_line_end (take at text) ≡ true → BeginsWithRow (drop at text) row rest → BeginsWithRow text row rest
 behind_ends {text} at h b = record { at_end = b.at_end; rows = λ tail k. without-ends text tail at h ∙ b.rows tail k }
 
 -- ---- a byte order mark
 
+-- a text that begins with a byte order mark is read without its first three bytes
 pub marked : (text tail : List ℕ) → 3 ≤ length text → get_or text 0 0 ≡ 0xEF → get_or text 1 0 ≡ 0xBB → get_or text 2 0 ≡ 0xBF → strip_bom (text ++ tail) ≡ drop 3 text ++ tail
 unfolding strip_bom
 marked (a ∷ b ∷ c ∷ text) tail h p q r = rw (p, q, r) refl
@@ -202,6 +225,7 @@ unmarked _ _ t h = refl
 
 -- ---- the rows of a text without its mark
 
+-- an empty text has no records
 no-rows : records default_config [] ≡ []
 unfolding next_record
 no-rows = whole [] ∙ rows-none st.StartRecord [] refl
@@ -210,13 +234,16 @@ no-rows = whole [] ∙ rows-none st.StartRecord [] refl
 pub no_rows_fed : records default_config (10 ∷ []) ≡ []
 no_rows_fed = skip-end 10 [] refl ∙ no-rows
 
+-- a line feed before a text leaves as its rows the records of the text
 pub rows_after_feed : (text : List ℕ) → rows_of (10 ∷ text) ≡ records default_config text
 rows_after_feed text = ap (records default_config) (unmarked [] (10 ∷ text) refl (λ few. absurd (omega arith))) ∙ skip-end 10 text refl
 
+-- where a text without its mark changes nothing in the records of what follows it, it has no rows
 pub none_ahead : (text bare : List ℕ) → ((tail : List ℕ) → AtLineEnd tail → strip_bom (text ++ tail) ≡ bare ++ tail)
     → ((tail : List ℕ) → records default_config (bare ++ tail) ≡ records default_config tail) → rows_of text ≡ []
 none_ahead text bare mark none = ap (records default_config) (rw (append-nil text) at (mark [] refl)) ∙ none [] ∙ no-rows
 
+-- where a text without its mark begins with a row, its rows are this one and those of the rest
 pub row_ahead : (text bare rest : List ℕ) (row : Fields) → ((tail : List ℕ) → AtLineEnd tail → strip_bom (text ++ tail) ≡ bare ++ tail) → BeginsWithRow bare row rest
     → rows_of text ≡ row ∷ rows_of rest
 row_ahead text bare rest row mark b =

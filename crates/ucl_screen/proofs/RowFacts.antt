@@ -14,6 +14,7 @@ use Rattle.csv.specs.declared.parser.Action.TheVariants as act
 abbrev Closes : State × Action → Type 0
 Closes p = is_end p.1 ≡ true → ends_at_end p.0 ≡ false
 
+-- whatever the parser does at a byte, if the byte ends a record, the state is between two records
 any-step : (s : State) (c : ℕ) → Closes (step default_config s c)
 any-step s c h = search arith
 
@@ -22,18 +23,21 @@ pub record Behind (xs : List ℕ) (p : Read) : Type 0 where
   pub between : ends_at_end p.1 ≡ false
   pub shorter : length p.2 ≤ length xs - 1
 
+-- where the text ends, a record that is read leaves an empty text and a state between two records
 the-end : (b : Bool) (fields : List (List ℕ)) (p : Read) → ◌≡◌ {A = Option Read} (if b then Some (fields, st.StartRecord, []) else None) (Some p) → Behind [] p
 the-end true fields p e =
     let q : ◌≡◌ {A = Read} (fields, st.StartRecord, []) p = cc in
     rw (← q) (record { between = refl; shorter = omega arith })
 the-end false fields p e = cc e
 
+-- where a byte ends a record, the text behind it is left, and the state is between two records
 at-once : (s : State) (c : ℕ) (fields : List (List ℕ)) (xs : List ℕ) (p : Read) → is_end (step default_config s c).1 ≡ true
     → ◌≡◌ {A = Option Read} (Some (fields, (step default_config s c).0, xs)) (Some p) → Behind (c ∷ xs) p
 at-once s c fields xs p h e =
     let q : ◌≡◌ {A = Read} (fields, (step default_config s c).0, xs) p = cc in
     rw (← q) (record { between = any-step s c h; shorter = omega arith })
 
+-- a record that is read leaves a state between two records, and a shorter text or an empty one
 pub behind : (s : State) (fields : List (List ℕ)) (field xs : List ℕ) (p : Read) → next_record default_config s fields field xs ≡ Some p → Behind xs p
 unfolding next_record
 behind s fields field [] p e = the-end (ends_at_end s) (fields ++ (field ∷ [])) p e
@@ -44,10 +48,12 @@ behind s fields field (c ∷ xs) p e = elim (cases_Bool (is_end (step default_co
       record { between = h.between; shorter = let k = h.shorter in omega arith }
 ]
 
+-- where the text ends between two records, no record is read
 nothing-left : (s : State) → ends_at_end s ≡ false → next_record default_config s [] [] [] ≡ None
 unfolding next_record
 nothing-left s h = rw h refl
 
+-- a record is read or not
 read-cases : (o : Option Read) → (o ≡ None) ⊎ ((p : Read) × (o ≡ Some p))
 read-cases None = inl refl
 read-cases (Some p) = inr (p, refl)
@@ -94,22 +100,26 @@ rows-next s (c ∷ xs) p b e =
     enough (length (c ∷ xs)) (length p.2 + 1) p.1 p.2 h.between (omega arith) (omega arith) in
     rw (add-one (length (c ∷ xs)), e) (ap (λ (t : List Fields). p.0 ∷ t) same)
 
+-- where no record is read, there are no rows
 pub rows-none : (s : State) (xs : List ℕ) → next_record default_config s [] [] xs ≡ None → rows_from s (Some xs) ≡ []
 unfolding rows_from records_from
 rows-none s xs e = rw (add-one (length xs), e) refl
 
+-- a text without its byte order mark is not longer
 short-strip : (xs : List ℕ) → length (strip_bom xs) ≤ length xs
 unfolding strip_bom
 short-strip (a ∷ b ∷ c ∷ rest) = elim (cases_Bool (is_bom a b c)) [ inl y ↦ rw y (omega arith) | inr n ↦ rw n (omega arith) ]
 short-strip xs = omega arith
 
+-- a text has at most as many rows as bytes
 pub few_rows : (xs : List ℕ) → length (rows_of xs) ≤ length xs
 few_rows xs = let a = few (length (strip_bom xs) + 1) st.StartRecord (strip_bom xs) refl in let b = short-strip xs in omega arith
 
--- what one read of a reader between two records does
+-- a reader of `csv` on borrowed bytes
 abbrev Source : Type 0
 Source = Reader (Bor (List ℕ))
 
+-- if a reader reaches the end of a record, its rows left are this record and those left after it, between two records
 one-more : (a b : Source) (xs zs : List ℕ) (fields : Fields) → IsReading a → bytes_left a ≡ Some xs → bytes_left b ≡ Some zs
     → Reached default_config a.state xs (fields ∷ []) b.state zs → (rows_left a ≡ fields ∷ rows_left b) × (ends_at_end b.state ≡ false)
 unfolding Reached
@@ -121,6 +131,7 @@ one-more a b xs zs fields h at-a at-b reached =
     let same : rows_from p.1 (Some p.2) ≡ rows_left b = rw (reached.3.0, reached.3.1, at-b) refl in
     (e ∙ rw (← reached.2, same) refl, rw (← reached.3.0) h2.between)
 
+-- a read that found a row leaves a reader that can read on, with the rows after this one
 pub read-found : (a b : Source) (xs : List ℕ) (fields : Fields) → IsReading a → bytes_left a ≡ Some xs → ReadRecord (λ (s : Bor (List ℕ)). Some s.now) a b true fields
     → took_first b ≡ true → has_failed b ≡ has_failed a → IsReading b × (rows_left a ≡ fields ∷ rows_left b)
 unfolding Reached
@@ -129,25 +140,30 @@ read-found a b xs fields h at-a r first failed =
     let one = one-more a b xs more.0 fields h at-a more.1 more.2 in
     (record { config = r.2 ∙ h.config; untrimmed = r.3 ∙ h.untrimmed; ready = inl first; sound = failed ∙ h.sound; between = one.1 }, one.0)
 
+-- a read that found no row had no rows left
 pub read-none : (a b : Source) (xs : List ℕ) (fields : Fields) → IsReading a → bytes_left a ≡ Some xs → ReadRecord (λ (s : Bor (List ℕ)). Some s.now) a b false fields
     → rows_left a ≡ []
 read-none a b xs fields h at-a r =
     let none = rows-end (λ (s : Bor (List ℕ)). Some s.now) a b fields default_config xs h.config at-a r in
     rw at-a (rows-none a.state xs none)
 
+-- whichever of two known lists of bytes a test picks, the bytes are known
 either-known : (x : Bool) (xs ys : List ℕ) → (zs : List ℕ) × (◌≡◌ {A = Option (List ℕ)} (if x then Some xs else Some ys) (Some zs))
 either-known true xs ys = (xs, refl)
 either-known false xs ys = (ys, refl)
 
+-- of a reader that has not failed, the bytes left are known
 pub known-left : (a : Source) → has_failed a ≡ false → (xs : List ℕ) × (bytes_left a ≡ Some xs)
 known-left a h = rw h (either-known _ _ _)
 
 -- ---- the fields of a row, read one at a time
 
+-- the fields of a row from its first four and a fifth: four fields, if the first four are there and the fifth is not
 abbrev pub four_from : Option (List ℕ) → Option (List ℕ) → Option (List ℕ) → Option (List ℕ) → Option (List ℕ) → Option FourFields
 four_from (Some a) (Some b) (Some c) (Some d) None = Some (record { first = a; second = b; third = c; fourth = d })
 four_from a b c d e = None
 
+-- the four fields of a row are worked out from the fields at its first five places
 pub four_by : (fs : List (List ℕ)) → four_of fs ≡ four_from (field_at fs 0) (field_at fs 1) (field_at fs 2) (field_at fs 3) (field_at fs 4)
 unfolding field_at
 four_by [] = refl
@@ -159,47 +175,56 @@ four_by (a ∷ b ∷ c ∷ d ∷ e ∷ fs) = refl
 
 -- ---- events and words read one row at a time
 
--- what was read so far, before what is still read
+-- the values read so far in front of those still read, or the fault of what is still read
 abbrev pub with_front : {A : Type 0} → List A → Result (List A) InputFault → Result (List A) InputFault
 with_front front read = read >>= λ xs. Ok (front ++ xs)
 
+-- a value read before what is still read is the last of what was read so far
 pub joins : {A : Type 0} (front : List A) (x : A) (read : Result (List A) InputFault)
     → with_front (front ++ (x ∷ [])) read ≡ with_front front (read >>= λ xs. Ok (x ∷ xs))
 joins {A} front x (Ok xs) = ap (λ (t : List A). Ok t) (append_assoc front (x ∷ []) xs)
 joins front x (Err fault) = refl
 
+-- an event that a row gives is the last of those read so far, before those of the next rows
 pub goes-on : (front : List NightEvent) (row : ℕ) (fields : Fields) (rows : List Fields) (e : NightEvent) → said_by event_of fields ≡ Some e
     → with_front (front ++ (e ∷ [])) (events_from (row + 1) rows) ≡ with_front front (events_from row (fields ∷ rows))
 unfolding events_from
 goes-on front row fields rows e h = joins front e (events_from (row + 1) rows) ∙ rw h refl
 
+-- a row that gives no event is the fault BadRow with its number
 pub stops : (front : List NightEvent) (row : ℕ) (fields : Fields) (rows : List Fields) → said_by event_of fields ≡ None
     → with_front front (events_from row (fields ∷ rows)) ≡ Err (BadRow row)
 unfolding events_from
 stops front row fields rows h = rw h refl
 
+-- without further rows the events are those read so far
 pub is-done : (front : List NightEvent) (row : ℕ) → with_front front (events_from row []) ≡ Ok front
 unfolding events_from
 is-done front row = ap (λ (t : List NightEvent). Ok t) (append-nil front)
 
+-- a word that a row gives is the last of those read so far, before those of the next rows
 pub word-more : (front : List ℕ) (n more game : ℕ) (fields : Fields) (rows : List Fields) (w : ℕ) → n ≡ suc more → said_by (word_of_row game) fields ≡ Some w
     → with_front (front ++ (w ∷ [])) (words_from more (game + 1) rows) ≡ with_front front (words_from n game (fields ∷ rows))
 unfolding words_from
 word-more front n more game fields rows w e h = joins front w (words_from more (game + 1) rows) ∙ rw (e, h) refl
 
+-- a row that gives no word of its match is the fault BadRow with its number, four more than the match's
 pub word-bad : (front : List ℕ) (n more game : ℕ) (fields : Fields) (rows : List Fields) → n ≡ suc more → said_by (word_of_row game) fields ≡ None
     → with_front front (words_from n game (fields ∷ rows)) ≡ Err (BadRow (game + 4))
 unfolding words_from
 word-bad front n more game fields rows e h = rw (e, h) refl
 
+-- a row of a word that is missing is the fault BadRow with its number, four more than the match's
 pub word-missing : (front : List ℕ) (n more game : ℕ) → n ≡ suc more → with_front front (words_from n game []) ≡ Err (BadRow (game + 4))
 unfolding words_from
 word-missing front n more game e = rw e refl
 
+-- a row after the last word is the fault BadRow with its number, four more than the match's would be
 pub word-over : (front : List ℕ) (n game : ℕ) (fields : Fields) (rows : List Fields) → n ≡ zero → with_front front (words_from n game (fields ∷ rows)) ≡ Err (BadRow (game + 4))
 unfolding words_from
 word-over front n game fields rows e = rw e refl
 
+-- without further words or rows the words are those read so far
 pub words-done : (front : List ℕ) (n game : ℕ) → n ≡ zero → with_front front (words_from n game []) ≡ Ok front
 unfolding words_from
 words-done front n game e = rw e (ap (λ (t : List ℕ). Ok t) (append-nil front))

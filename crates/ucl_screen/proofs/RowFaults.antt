@@ -21,7 +21,7 @@ night-reads (Err fault.OutOfMemory) old new failed bytes f h kinds g = f
 night-reads (Err fault.TooLong) old new failed bytes f h kinds g = (f, known old bytes (λ w. (w >>= λ text. night_of_rows (rows_of text)) ≡ Err fault.TooLong) h g)
 night-reads (Err e) old new failed bytes f h kinds g = absurd kinds
 
--- a text whose rows make a sheet
+-- the rows of the bytes make this sheet, or have this as their first fault
 abbrev pub rows_say : List ℕ → Result WrittenSheet InputFault → Type 0
 rows_say bytes said = sheet_of_rows (rows_of bytes) ≡ said
 
@@ -52,6 +52,7 @@ sheet-taken sheet words old new failed bytes f h g read =
     let written : WrittenSheet = record { clubs = sheet.roster; words = words } in
     (f, both-known old (λ xs. sheet_of xs ≡ Ok written) (λ xs. MeansSheet xs (Ok (sheet_seen sheet))) (sheet-known old bytes (Ok written) h g) (λ xs e. (written, e, refl, read)))
 
+-- a sheet whose word at `index` is the first that is a word of neither layout is refused for it, as the definition says
 pub sheet-tested : (sheet : WrittenSheet) (index : ℕ) (old new : Option (List ℕ)) (failed : Bool) (bytes : List ℕ) → failed ≡ false
     → IfSome old (λ xs. whole_input xs ≡ Ok bytes) → rows_say bytes (Ok sheet) → read_words 1 sheet.words ≡ Err index → Reads MeansSheet sheet_seen old new failed (Err (fault.BadWordAt index))
 sheet-tested sheet index old new failed bytes f h g bad =

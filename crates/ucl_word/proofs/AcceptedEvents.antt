@@ -23,6 +23,7 @@ pub record Accepts (m : MatchRecord) (expected : ℕ) (kind : Kind) : Type 0 whe
   pub caution : lacks_caution m kind ≡ false
   pub limit : passes_limit m kind ≡ false
 
+-- if a rule and the rules after it give no refusal, its condition does not hold, and the rules after it give none
 skip : (b : Bool) (r : Refusal) (o : Option Refusal) → (if b then Some r else o) ≡ None → (b ≡ false) × (o ≡ None)
 skip true r o h = absurd cc
 skip false r o h = (refl, h)
@@ -42,6 +43,7 @@ accepts m expected kind h =
     let j = skip _ _ _ i.1 in
     record { current = a.0; unfinished = b.0; finished = c.0; started = d.0; not_started = e.0; room = f.0; goal = g.0; caution = i.0; limit = j.0 }
 
+-- an accepted event expects the event number that the record has
 pub expects_number : (m : MatchRecord) (expected : ℕ) (kind : Kind) → Accepts m expected kind → expected ≡ m.number
 expects_number m expected kind a = let is = a.current in grind (arith, nat_tests)
 
@@ -49,21 +51,27 @@ expects_number m expected kind a = let is = a.current in grind (arith, nat_tests
 pub begun : (s : State) → (is_finished s && true) ≡ false → (is_scheduled s && true) ≡ false → s ≡ InPlay
 begun s f h = search arith
 
+-- what the tests of a refusal leave of the state for a kick-off: it is scheduled
 pub unbegun : (s : State) → (is_finished s && true) ≡ false → (is_in_play s && true) ≡ false → s ≡ Scheduled
 unbegun s f h = search arith
 
+-- what the tests of a refusal leave of the state for a reopening: it is finished
 pub over : (s : State) → (not (is_finished s) && true) ≡ false → s ≡ Finished
 over s h = search arith
 
+-- an event number that the test does not find at the greatest in play is below that
 room_left : (n : ℕ) → (nat_le max_number_in_play n && true) ≡ false → n < max_number_in_play
 room_left n h = grind (arith, nat_tests)
 
+-- a valid record in play has an event number from 1 to the greatest in play
 in_play : (m : MatchRecord) → m.state ≡ InPlay → IsValid m → (1 ≤ m.number) × (m.number ≤ max_number_in_play)
 in_play m e v = let s = rw e at (parts m v).1 in (grind (arith, nat_tests), grind (arith, nat_tests))
 
+-- a valid record of a finished match has an event number of at least 2
 finished : (m : MatchRecord) → m.state ≡ Finished → IsValid m → 2 ≤ m.number
 finished m e v = let s = rw e at (parts m v).1 in grind (arith, nat_tests)
 
+-- an event number from 1 to the greatest in play and a reporter's number from 1 to 255 suit the state in play
 suits_in_play : (s : State) (m : MatchRecord) → s ≡ InPlay → 1 ≤ m.number → m.number ≤ max_number_in_play → IsReporter m.reporter → suits_state s m ≡ true
 suits_in_play s m e low high r = let a = r.0 in let b = r.1 in rw e (grind (arith, nat_tests))
 
@@ -123,6 +131,7 @@ pub ends_again : (m : MatchRecord) (reporter : ℕ) → IsValid m → IsReporter
 unfolding after
 ends_again m reporter v is none = let valid = after_valid m reporter m.number Reopen v is (accepts m m.number Reopen none) in (valid, full_time (after m reporter Reopen) valid refl)
 
+-- an accepted event raises the event number by one
 pub after_number : (m : MatchRecord) (reporter : ℕ) (kind : Kind) → (after m reporter kind).number ≡ m.number + 1
 unfolding after
 after_number m reporter kind = refl
@@ -173,6 +182,7 @@ kind_back m r n (SecondYellow Away) a = rw (begun m.state a.unfinished a.started
 kind_back m r n (Red Home) a = rw (begun m.state a.unfinished a.started, same m.home_goals, same m.away_goals, same m.home_yellows, same m.away_yellows, more m.home_expulsions) refl
 kind_back m r n (Red Away) a = rw (begun m.state a.unfinished a.started, same m.home_goals, same m.away_goals, same m.home_yellows, same m.away_yellows, same m.home_expulsions) refl
 
+-- after an accepted event the record has the number of its reporter
 reporter_after : (m : MatchRecord) (reporter : ℕ) (kind : Kind) → (after m reporter kind).reporter ≡ reporter
 unfolding after
 reporter_after m r kind = refl

@@ -10,6 +10,7 @@ use Rattle.ucl_word.specs.Changes.{goals_field, yellows_field, expulsions_field,
 use Rattle.ucl_word.proofs.Words.{word_high, word_valid, word_packed}
 use Rattle.ucl_word.proofs.AcceptedEvents.{accepts, after_valid}
 
+-- a word of a valid record is below two to the power of 62
 pub word_below : (word : ℕ) → IsWord word → word < 2 ^ 62
 word_below word is = let high = word_high word is in omega arith
 
@@ -32,6 +33,7 @@ goal_taken : (side : Side) (m : MatchRecord) → 0 < goals side m → word_of (c
 unfolding word_of
 goal_taken side m some = search arith
 
+-- a kick-off of a scheduled match, or full time of one in play, adds one in the word's field of the state
 moved_on : (m : MatchRecord) → (m.state ≡ Scheduled → word_of (changed_by KickOff m) ≡ word_of m + 2 ^ layout.state.low)
     × (m.state ≡ InPlay → word_of (changed_by FullTime m) ≡ word_of m + 2 ^ layout.state.low)
 unfolding word_of
@@ -40,10 +42,12 @@ moved_on m = (
   λ state. let code : state_code m.state ≡ 1 = ap state_code state in omega arith,
 )
 
+-- a reopening of a finished match takes one from the word's field of the state
 reopened : (m : MatchRecord) → m.state ≡ Finished → word_of (changed_by Reopen m) + 2 ^ layout.state.low ≡ word_of m
 unfolding word_of
 reopened m state = let code : state_code m.state ≡ 2 = ap state_code state in omega arith
 
+-- a second yellow takes one from the side's field of yellows and adds one in its field of expulsions
 yellow_turned : (side : Side) (m : MatchRecord) → 0 < yellows side m
     → word_of (changed_by (SecondYellow side) m) + 2 ^ (yellows_field side).low ≡ word_of m + 2 ^ (expulsions_field side).low
 unfolding word_of
@@ -62,6 +66,7 @@ entered_word : (kind : Kind) (m : MatchRecord) (reporter : ℕ)
 unfolding word_of after
 entered_word kind m reporter = let k = kept kind m in omega arith
 
+-- after an accepted event the word is greater than its reporter's number at its place in the word
 reporter_below : (kind : Kind) (m : MatchRecord) (reporter : ℕ) → reporter * 2 ^ layout.reporter.low < word_of (after m reporter kind)
 unfolding word_of after
 reporter_below kind m reporter = omega arith

@@ -20,11 +20,13 @@ entered es reporter kind = es ++ record { reporter = reporter; kind = kind } ∷
 pub count_next : (kind : Kind) (es : List MatchEntry) (e : MatchEntry) → count kind (es ++ e ∷ []) ≡ count kind es + cond (is_kind kind e.kind) 1 0
 count_next kind es e = sum_by-append (λ e. cond (is_kind kind e.kind) 1 0) es (e ∷ []) ∙ ap (λ (n : ℕ). count kind es + n) (zero-add (cond (is_kind kind e.kind) 1 0))
 
+-- the last reporter of a list with an entry at its end is the reporter of this entry
 pub last_next : (es : List MatchEntry) (e : MatchEntry) → last_reporter (es ++ e ∷ []) ≡ e.reporter
 last_next [] e = refl
 last_next (x ∷ []) e = refl
 last_next (x ∷ y ∷ es) e = last_next (y ∷ es) e
 
+-- an entry of another kind at the end leaves the count of a kind as it is
 no_more : (kind : Kind) (es : List MatchEntry) (e : MatchEntry) → is_kind kind e.kind ≡ false → count kind (es ++ e ∷ []) ≡ count kind es
 no_more kind es e is = count_next kind es e ∙ (ap (λ (b : Bool). count kind es + cond b 1 0) is ∙ add-zero (count kind es))
 
@@ -45,9 +47,11 @@ state_by kicks ends reopens = if kicks == 0 then Scheduled else (if ends == reop
 kicked_off : (kicks ends reopens : ℕ) → CaseOf Scheduled kicks ends reopens → state_by (kicks + 1) ends reopens ≡ InPlay
 kicked_off kicks ends reopens c = rw (c.0, c.1, c.2) refl
 
+-- full time leads from the case of a match in play to the state finished
 ended : (kicks ends reopens : ℕ) → CaseOf InPlay kicks ends reopens → state_by kicks (ends + 1) reopens ≡ Finished
 ended kicks ends reopens c = rw (c.0, ne_eqb (ends + 1) reopens (λ e. let same = c.1 in omega arith)) refl
 
+-- a reopening leads from the case of a finished match to the state in play
 reopened : (kicks ends reopens : ℕ) → CaseOf Finished kicks ends reopens → state_by kicks ends (reopens + 1) ≡ InPlay
 reopened kicks ends reopens c = rw (c.0, eq-eqb ends (reopens + 1) c.1) refl
 
@@ -104,6 +108,7 @@ case_next es r Reopen h a =
     simp (count_next, add-zero) (c.0, c.1)
 case_next es r kind h a = rw (state_kept kind (counted_match es) refl refl refl) (same_case es (record { reporter = r; kind = kind }) refl refl refl (state_of es) h)
 
+-- where there are no entries, no goal is disallowed and no yellow card is a second one
 pub balanced_none : IsBalanced []
 balanced_none = record { goals = λ side. le_refl 0; yellows = λ side. le_refl 0 }
 
@@ -117,6 +122,7 @@ goal_stands es Home (Disallow Home) h is = stands _ _ h
 goal_stands es Away (Disallow Away) h is = stands _ _ h
 goal_stands es side kind h is = absurd cc
 
+-- if the counted record has a standing yellow for a second yellow, there are fewer second yellows than yellows
 yellow_stands : (es : List MatchEntry) (side : Side) (kind : Kind) → lacks_caution (counted_match es) kind ≡ false
     → is_kind (SecondYellow side) kind ≡ true → count (SecondYellow side) es < count (Yellow side) es
 unfolding counted_match
@@ -124,6 +130,7 @@ yellow_stands es Home (SecondYellow Home) h is = stands _ _ h
 yellow_stands es Away (SecondYellow Away) h is = stands _ _ h
 yellow_stands es side kind h is = absurd cc
 
+-- what is taken stays within what is given, if one more is taken only where one is left
 stays : (taken given : ℕ) (takes gives : Bool) → taken ≤ given → (takes ≡ true → taken < given) → taken + cond takes 1 0 ≤ given + cond gives 1 0
 stays taken given takes gives le lt = search (arith, lt)
 
@@ -140,10 +147,12 @@ balanced_next es e b a = record {
 pub legal_balanced : (es : List MatchEntry) → IsLegalMatch es → IsBalanced es
 legal_balanced = may_induction IsAccepted IsBalanced balanced_none (λ es e legal may b. balanced_next es e b (accepts (counted_match es) (length es) e.kind may.accepted))
 
+-- the record counted from no entries is that of a match that has not kicked off
 record_none : counted_match [] ≡ scheduled
 unfolding counted_match
 record_none = refl
 
+-- the state in the counted record is that which the entries give
 state_is : (es : List MatchEntry) → (counted_match es).state ≡ state_of es
 unfolding counted_match
 state_is es = refl
@@ -156,6 +165,7 @@ legal_case = may_induction IsAccepted (λ es. IsCase (state_of es) es) (refl, re
     ap (λ (m : MatchRecord). m.state) (sym (record_next es e.reporter e.kind (legal_balanced es legal) h a)) ∙ state_is (es ++ e ∷ []) in
     subst (λ (s : State). IsCase s (es ++ e ∷ [])) is (case_next es e.reporter e.kind h a))
 
+-- a legal list of entries has the kick-offs, full times and reopenings of the state of its match, and of no other
 pub one_case : OneCaseHolds
 one_case es legal s = (
   λ c. case_state s (count KickOff es) (count FullTime es) (count Reopen es) c ∙ sym (state_is es),

@@ -38,6 +38,7 @@ moved_from word m room is = let below = most_numbers m.state m.number room in om
 pub word_moves : (word : ℕ) → (first : IsFirstWord word) → word_of first.of ≡ moved_up word
 word_moves word first = sym (first_moves first.of first.valid) ∙ ap (λ (w : ℕ). moved_up w) first.packed
 
+-- a word of the first layout, with its fields moved to the present one, is a word of a valid record there
 pub moves_to_word : (word : ℕ) → IsFirstWord word → IsWord (moved_up word)
 moves_to_word word first = record { of = first.of; valid = first.valid.valid; packed = word_moves word first }
 
@@ -49,6 +50,7 @@ first_high word is = rw (← is.packed) (first_told is.of is.valid).high_is
 pub first_apart : (m n : MatchRecord) → IsFirstValid m → IsFirstValid n → first_word_of m ≡ first_word_of n → m ≡ n
 first_apart m n v w e = sym (first_back m v) ∙ (ap (record_told first_layout.number.width) e ∙ first_back n w)
 
+-- no word is that of a valid record in both layouts
 pub layouts_apart : LayoutsDiffer
 layouts_apart word is first = let a = word_high word is in let b = first_high word first in omega arith
 
@@ -57,6 +59,7 @@ pub word_unpacked : (r : Result MatchRecord BadWord) (word : ℕ) → IfOk r IsV
 word_unpacked (Ok m) word valid packed is = record { of = m; valid = valid; packed = packed }
 word_unpacked (Err bad) word valid packed is = absurd (true≢false (sym is))
 
+-- where a word is not unpacked, and an error means that it is no word, it is no word of the present layout
 pub word_refused : (r : Result MatchRecord BadWord) (word : ℕ) → IfErr r (λ _. IsWord word → ⊥) → is_ok r ≡ false → IsWord word → ⊥
 word_refused (Ok m) word refused is = absurd (true≢false is)
 word_refused (Err bad) word refused is = refused
@@ -74,6 +77,7 @@ pub record_of_first : (word : ℕ) (is : IsFirstWord word) → first_record_at w
 unfolding first_record_at
 record_of_first word is = ap (record_told first_layout.number.width) (sym is.packed) ∙ first_back is.of is.valid
 
+-- the test of the first layout holds of just the words of the first layout
 pub first_tested : (word : ℕ) → (is_first_word word ≡ true) ↔ IsFirstWord word
 first_tested word = (
   λ h. let m = first_record_at word in
@@ -91,12 +95,14 @@ pub reads_word : (word : ℕ) → IsWord word → read_word word ≡ Some word
 unfolding read_word
 reads_word word is = rw ((word_tested word).1 is) refl
 
+-- a word of the first layout is read as the word, in the present layout, of the same record
 pub reads_first : (word : ℕ) (is : IsFirstWord word) → read_word word ≡ Some (word_of is.of)
 unfolding read_word
 reads_first word is =
     let none = false_from_ne_true (is_word word) (λ h. layouts_apart word ((word_tested word).0 h) is) in
     rw (none, (first_tested word).1 is, record_of_first word is) refl
 
+-- a word of neither layout is not read
 pub reads_none : (word : ℕ) → (IsWord word → ⊥) × (IsFirstWord word → ⊥) → read_word word ≡ None
 unfolding read_word
 reads_none word not = rw (

@@ -4,10 +4,12 @@ use Rattle.ucl_word.proofs.Common.{true, ◌≡◌, ◌≤◌}
 use Rattle.ucl_word.specs.Record.{is_untouched, is_valid, max_number}
 use Rattle.std.proofs.lemmas.Bool.{and_from, and_parts}
 
+-- a valid record is within the limits, and its numbers suit its state
 pub parts : (m : MatchRecord) → IsValid m → (is_within_limits m ≡ true) × (suits_state m.state m ≡ true)
 unfolding is_valid
 parts m v = and_parts (is_within_limits m) (suits_state m.state m) v
 
+-- a record within the limits whose numbers suit its state is valid
 pub whole : (m : MatchRecord) → is_within_limits m ≡ true → suits_state m.state m ≡ true → IsValid m
 unfolding is_valid
 whole m w s = and_from (is_within_limits m) (suits_state m.state m) w s
@@ -35,12 +37,15 @@ module _ (m : MatchRecord) (v : IsValid m) where
   pub away_expulsions_valid : m.away_expulsions ≤ 31
   away_expulsions_valid = let w = within in grind (arith, nat_tests)
 
+-- where numbers suit a state, the event number and the reporter are within their limits, and an event has a reporter
 number_within : (s : State) (m : MatchRecord) → suits_state s m ≡ true → (m.number ≤ max_number) × (m.reporter ≤ 255) × (1 ≤ m.number → 1 ≤ m.reporter)
 number_within s m h = (search (arith, nat_tests), search (arith, nat_tests), search (arith, nat_tests))
 
+-- the event number of a valid record is at most 4,095
 pub number_valid : (m : MatchRecord) → IsValid m → m.number ≤ max_number
 number_valid m v = (number_within m.state m (parts m v).1).0
 
+-- the reporter of a valid record has a number of at most 255
 pub reporter_valid : (m : MatchRecord) → IsValid m → m.reporter ≤ 255
 reporter_valid m v = (number_within m.state m (parts m v).1).1
 
@@ -50,6 +55,7 @@ has_reporter m v some = ((number_within m.state m (parts m v).1).2 some, reporte
 
 pub ruleset limits = (home_goals_valid, away_goals_valid, home_yellows_valid, away_yellows_valid, home_expulsions_valid, away_expulsions_valid, number_valid)
 
+-- the record of a match that has not kicked off is valid
 pub scheduled_valid : IsValid scheduled
 unfolding is_valid
 scheduled_valid = refl

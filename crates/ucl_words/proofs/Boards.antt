@@ -271,6 +271,7 @@ pub steps_on : (seat : ℕ) (target : Target) (s : Position) (place : ℕ) (v w 
 steps_on seat target s place v w words here t =
     later_set s place v w words here (since words_after IsNextOfProtocol seat target v w t) (λ acts none. acts (sym (ap (λ (z : View). z.share) t.is) ∙ none))
 
+-- a pass with a share has one after a split
 pub left_acts : (v : View) → v.share ≢ None → (left_pass v).share ≢ None
 left_acts v acts = acts_some (left_pass v).share (half_acts false v.share (some_acts v.share acts))
 
@@ -350,6 +351,7 @@ counts_find place s r st m m' l =
     let n = slice_index s.words st.word in
     counts_reporters (enlisted_by r.log) n m.0 m'.0 (ap (slice_index s.words) l.0 ∙ count_there s r) (loads_enlisted place n m.0 m'.0 l.1)
 
+-- a step that finds n reporters enlisted, and enlists one or only looks, counts n
 enlists_by : (place k n : ℕ) (v w : View) → n ≡ k → (b : Bool) → Steps place (cond b (Enlists n) (Enlisted n)) v w → CountsReporters k v w
 enlists_by place k n v w is true step =
     subst (λ (j : ℕ). CountsReporters j v w) is (record { step = _; takes = (enlist_won place n v w step).gives.takes; found_is = (inr refl, refl) })

@@ -231,6 +231,7 @@ firsts_all v x words i long all (inr t) =
 abbrev pub Seconds : View → List ℕ → ℕ → ℕ → View → Type 0
 Seconds v words point count x = client_of x.own ≡ record (client_of v.own) { held = Checking words count point }
 
+-- a pass that holds a first collect, and has made no load of the second, has found 0 words again
 pub seconds_none : (v : View) (words : List ℕ) (point : ℕ) → (client_of v.own).held ≡ Checking words 0 point → Seconds v words point 0 v
 seconds_none v words point is = λ i. record (client_of v.own) { held = is i }
 
@@ -305,5 +306,6 @@ counted_does seat n v w s =
     ∙ ap (λ (o : Outcome). with_outcome o s.step (client_of v.own)) (count_stays (client_of v.own).number n s.step.at (client_of v.own).held) in
     record { calls = ap (λ (z : ClientState). z.calls) is; held = ap (λ (z : ClientState). z.held) is }
 
+-- the step that enlists a pass finishes no report and no reading, and begins none
 pub enlisted_does : (seat n : ℕ) (v w : View) → Steps seat (Enlists n) v w → DoneAsBefore v w
 enlisted_does seat n v w s = let is = client_is seat (Enlists n) v w s in record { calls = ap (λ (z : ClientState). z.calls) is; held = ap (λ (z : ClientState). z.held) is }

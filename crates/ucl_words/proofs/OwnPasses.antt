@@ -15,5 +15,6 @@ split_own board k m n is split =
     let both = both_occur words_after IsNextOfProtocol k.pass m.pass n.pass split.occurs is.1 in
     ((split.own.0 ∙ is.0, both.0), (split.own.1 ∙ is.0, both.1))
 
+-- two passes of a board are passes of it after they have met, and occur
 pub met_own : (board : TableId) (a b k m : WordPass) → IsWordPassOf board a × IsWordPassOf board k → WordMet a b k m → IsWordPassOf board b × IsWordPassOf board m
 met_own board a b k m is met = (subst (λ (p : WordPass). IsWordPassOf board p) (sym met.unchanged) is.0, own_after board k m is.1.0 met.own.1 met.occurs)

@@ -76,13 +76,16 @@ pub record Tried (v x : View) : Type 0 where
   pub walks : Walks v (accesses_of tries) x
   pub unclean : AllByRecursion IsUnclean tries
 
+-- a pass that is consistent has, before its first try of a reading, made no try
 pub tried_none : (v : View) → IsConsistent v → Tried v v
 tried_none v consistent = record { tries = []; walks = walks_none v consistent; unclean = tt }
 
+-- the accesses of tries with one more at the end are those of the tries and then those of this one
 accesses_next : (tries : List (List Access)) (ms : List Access) → accesses_of (tries ++ ms ∷ []) ≡ accesses_of tries ++ ms
 accesses_next [] ms = append-nil ms
 accesses_next (t ∷ tries) ms = ap (λ (l : List Access). t ++ l) (accesses_next tries ms) ∙ sym (append_assoc t (accesses_of tries) ms)
 
+-- if no try is clean, and the next one is not, none of all is
 unclean_next : (tries : List (List Access)) (ms : List Access) → AllByRecursion IsUnclean tries → IsUnclean ms → AllByRecursion IsUnclean (tries ++ ms ∷ [])
 unclean_next [] ms all one = (one, tt)
 unclean_next (t ∷ tries) ms all one = (all.0, unclean_next tries ms all.1 one)

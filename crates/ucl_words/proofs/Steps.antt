@@ -29,6 +29,7 @@ Position = State Entry View
 get_match : (n : ℕ) (b : List ℕ) (game : ℕ) → 1 ≤ game → get_or (n ∷ b) game 0 ≡ get_or b (game - 1) 0
 get_match n b game low = search arith
 
+-- to set the word of a match on a board behind its number of reporters sets it among the match words
 set_match : (n : ℕ) (b : List ℕ) (game x : ℕ) → 1 ≤ game → set (n ∷ b) game x ≡ n ∷ set b (game - 1) x
 set_match n b game x low = search arith
 
@@ -223,9 +224,11 @@ swaps slots seat place game m e entry old new is_seat acts holds of s r _ here _
 pub seconds : (seat : ℕ) (v : View) → Splits TableInvariant seat v (left_pass v) (second_pass v)
 seconds seat v s r here = seconds_keep words_after IsNextOfProtocol s.words s.views r seat v here
 
+-- the making of a note of a pass keeps the invariant
 pub notes : (seat : ℕ) (v : View) → Splits TableInvariant seat v v (note_pass v)
 notes seat v s r here = notes_keep words_after IsNextOfProtocol s.words s.views r seat v here
 
+-- the taking in of a note by a pass keeps the invariant
 pub joins : (seat : ℕ) (v : View) (other : ℕ) (a : View) → Joins TableInvariant seat v other (note_pass a) (told_pass v (note_pass a)) new_pass
 joins seat v other a s r here apart there = joins_keep words_after IsNextOfProtocol s.words s.views r seat v here other (note_pass a) apart there refl
 
@@ -342,6 +345,7 @@ all_plain [] = refl
 all_plain (m ∷ []) = refl
 all_plain (m ∷ n ∷ ms) = ap (λ (l : List Taken). plain m ∷ l) (all_plain (n ∷ ms))
 
+-- the steps of two lists of accesses, which add no entry, are, one after the other, the steps of both together
 pub plain_append : (ms ns : List Access) → steps_with None (ms ++ ns) ≡ steps_with None ms ++ steps_with None ns
 plain_append ms ns = all_plain (ms ++ ns) ∙ (map-append plain ms ns ∙ sym (λ i. all_plain ms i ++ all_plain ns i))
 

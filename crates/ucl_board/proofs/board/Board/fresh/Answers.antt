@@ -11,6 +11,7 @@ use Rattle.ucl_board.proofs.board.Board.fresh.Goals.{After-pack-scheduled}
 pub pack-scheduled-requires : goal.pack-scheduled-requires
 pack-scheduled-requires c = subst IsValid (sym (default_is c.default.result c.default.ensures)) scheduled_valid
 
+-- the word that the code packs for a fresh match is that of a match that has not kicked off
 word : (c : After-pack-scheduled) → c.pack-scheduled.result ≡ word_of scheduled
 word c = c.pack-scheduled.ensures ∙ ap word_of (default_is c.default.result c.default.ensures)
 
