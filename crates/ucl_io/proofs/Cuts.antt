@@ -8,7 +8,7 @@ use Rattle.std.proofs.lemmas.Bool.Decides.{nat_tests}
 use Rattle.std.proofs.lemmas.List.{length-drop, take-append-drop, take-append-le, take_all, take_more}
 use Rattle.ucl_io.specs.Lines.{HasNoFeed, BeginsWithLine, begun_line, ended_lines, longer}
 
--- no bytes end no line, and what was kept of the line stays
+-- no bytes end no line
 pub ended_none : (cap : ℕ) (line : List ℕ) → ended_lines cap line [] ≡ []
 unfolding ended_lines
 ended_none cap line = refl
@@ -45,7 +45,7 @@ few_lines cap line (b ∷ bytes) = elim (cases_Bool (b == 10)) [
   | inr n ↦ rw n (let k = few_lines cap (longer cap line b) bytes in omega arith)
 ]
 
--- a line feed ends the line, and nothing of the next has begun
+-- a line feed ends the line that has begun, and no other
 pub ended_ten : (cap : ℕ) (line : List ℕ) (b : ℕ) → b ≡ 10 → ended_lines cap line (b ∷ []) ≡ line ∷ []
 unfolding ended_lines
 ended_ten cap line b e = rw e refl

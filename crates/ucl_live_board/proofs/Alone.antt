@@ -7,7 +7,7 @@ use Rattle.ucl_board.specs.Log.{LogFacts}
 use Rattle.ucl_board.proofs.Logs.{taken_none, below_more, log_facts}
 use Rattle.ucl_live_board.proofs.Halves.{in_whole}
 
--- the first step of a log is the first of the seat that took it, and is not of another seat
+-- a step of a seat in front of a log is in front of the steps of this seat
 pub taken_here : (seat : ℕ) (t : Taken) (log : Log) → taken_by seat (logged_by seat t ∷ log) ≡ t ∷ taken_by seat log
 taken_here seat t log = search (arith, eq-eqb)
 

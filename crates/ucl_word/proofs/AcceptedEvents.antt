@@ -47,7 +47,7 @@ accepts m expected kind h =
 pub expects_number : (m : MatchRecord) (expected : ℕ) (kind : Kind) → Accepts m expected kind → expected ≡ m.number
 expects_number m expected kind a = let is = a.current in grind (arith, nat_tests)
 
--- what the tests of a refusal leave of the state: in play, scheduled or finished
+-- what the tests of a refusal leave of the state for any other event than a kick-off or reopening: it is in play
 pub begun : (s : State) → (is_finished s && true) ≡ false → (is_scheduled s && true) ≡ false → s ≡ InPlay
 begun s f h = search arith
 

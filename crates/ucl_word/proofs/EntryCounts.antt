@@ -43,7 +43,7 @@ more_left a b = omega arith
 abbrev state_by : ℕ → ℕ → ℕ → State
 state_by kicks ends reopens = if kicks == 0 then Scheduled else (if ends == reopens then InPlay else Finished)
 
--- a kick-off, full time and a reopening lead from the case of one state to that of the next
+-- a kick-off leads from the case of a scheduled match to the state in play
 kicked_off : (kicks ends reopens : ℕ) → CaseOf Scheduled kicks ends reopens → state_by (kicks + 1) ends reopens ≡ InPlay
 kicked_off kicks ends reopens c = rw (c.0, c.1, c.2) refl
 
@@ -115,7 +115,7 @@ balanced_none = record { goals = λ side. le_refl 0; yellows = λ side. le_refl 
 stands : (given taken : ℕ) → (given - taken == 0) ≡ false → taken < given
 stands given taken h = grind (arith, nat_tests)
 
--- an accepted disallowed goal follows a goal that stands, and a second yellow card a yellow one that stands
+-- if the counted record has a goal for one to be disallowed, there are fewer disallowed goals than goals
 goal_stands : (es : List MatchEntry) (side : Side) (kind : Kind) → lacks_goal (counted_match es) kind ≡ false → is_kind (Disallow side) kind ≡ true → count (Disallow side) es < count (Goal side) es
 unfolding counted_match
 goal_stands es Home (Disallow Home) h is = stands _ _ h
