@@ -83,7 +83,7 @@ each_slot P a b c d n is = or_else P 1 a n (λ not_1. or_else P 2 b n (λ not_2.
 pub number_listed : (g d : ℕ) → IsMatch g → get_or match_numbers (g - 1) d ≡ g
 number_listed g d is = each_match (λ g. get_or match_numbers (g - 1) d ≡ g) refl refl refl refl refl refl refl refl refl refl refl refl g is
 
--- the board of no event
+-- twelve words of matches that have not kicked off are the board before any event
 pub board_none : replicate 12 (word_of scheduled) ≡ board_of []
 unfolding board_of counted_match
 board_none = refl
@@ -93,7 +93,7 @@ pub board_length : (h : List Entry) → length (board_of h) ≡ 12
 unfolding board_of
 board_length h = refl
 
--- each is the word of its match's record
+-- at each of its twelve places the board after a history has the word of the match's record after the history
 word_listed : (h : List Entry) (k d : ℕ) → k < 12 → get_or (board_of h) k d ≡ word_of (match_after h (get_or match_numbers k 0))
 unfolding board_of
 word_listed h k d below = get_or-map (λ game. word_of (match_after h game)) match_numbers k 0 d below
@@ -145,7 +145,7 @@ board_words h legal = record {
       rw at (record { of = match_after h (get_or match_numbers k 0); valid = match_valid (get_or match_numbers k 0) h legal; packed = refl });
 }
 
--- the reply after a history, by the board
+-- on the board after a legal history the reply to an event is that after the history
 pub reply_is : (h : List Entry) (words : List ℕ) (call : EventCall) → IsLegal h → board_of h ≡ words → IsMatch call.game → reply_of (game_at words call.game) call ≡ sequential_reply h call
 reply_is h words call legal is range =
     let was : game_at words call.game ≡ match_after h call.game = ap (λ (ws : List ℕ). game_at ws call.game) (sym is) ∙ game_after h call.game legal range in

@@ -100,7 +100,7 @@ unfolding begun_line
 begun_all cap line [] h short = sym (ap (take cap) (append-nil line) ∙ take_all cap line short)
 begun_all cap line (b ∷ bytes) h short = rw (ne_eqb b 10 h.0) (begun_all cap (longer cap line b) bytes h.1 (longer_short cap line b short) ∙ take_longer cap line bytes b)
 
--- nor is more kept of a line that has begun
+-- of a line that has begun no more than `cap` bytes are kept
 pub begun_short : (cap : ℕ) (line bytes : List ℕ) → length line ≤ cap → length (begun_line cap line bytes) ≤ cap
 unfolding begun_line
 begun_short cap line [] h = h

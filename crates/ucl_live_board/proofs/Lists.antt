@@ -34,7 +34,7 @@ few_mine k s =
     let o = ap length s.own in
     omega arith
 
--- a pass that no call changed
+-- a sound pass that no call changed holds all that a pass keeps over a call
 pub unchanged : (k m : PassView) → IsSound k → m ≡ k → Continues k m
 unchanged k m sound same = subst (Continues k) (sym same) (record { sound = sound; on = record { seen = begins_same k.seen; listed = le_refl k.listed; share = refl }; number = refl })
 

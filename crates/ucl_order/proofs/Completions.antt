@@ -83,7 +83,7 @@ record Between (club : ℕ) (games board later : List ℕ) : Type 0 where
   low : points club (finished (board_part board games)) ≤ points club (started (board_part later games))
   high : points club (started (board_part later games)) ≤ points club (finished (board_part board games)) + 3 * played club (unfinished (board_part board games))
 
--- which club plays in a match is the same whatever is known of it
+-- whether a club plays in a match does not depend on the numbers of the match
 plays_alike : (at_home away : Bool) (h v h' v' : Appearance)
     → plays (if at_home then Some h else (if away then Some v else None)) ≡ plays (if at_home then Some h' else (if away then Some v' else None))
 unfolding plays

@@ -331,12 +331,12 @@ was_split k m n sound own other left given = record {
   occurs = split_occurs words_after IsLegalStep k.view m.view n.view left given;
 }
 
--- and both are passes of the board
+-- the two passes that a split makes of a pass of a board are passes of it
 pub split_own : (board : TableId) (k m n : CellPass) → CellSplit k m n → IsCellPassOf board k → IsCellPassOf board m × IsCellPassOf board n
 split_own board k m n split is =
     let both = both_occur words_after IsLegalStep k.view m.view n.view split.occurs is.1 in
     ((split.own.0 ∙ is.0, both.0), (split.own.1 ∙ is.0, both.1))
 
--- so are two that met
+-- two passes of a board are passes of it after they have met
 pub met_own : (board : TableId) (a b k m : CellPass) → CellMet a b k m → IsCellPassOf board a × IsCellPassOf board k → IsCellPassOf board b × IsCellPassOf board m
 met_own board a b k m met is = (subst (λ (c : CellPass). IsCellPassOf board c) (sym met.unchanged) is.0, (met.own.1 ∙ is.1.0, met.occurs))

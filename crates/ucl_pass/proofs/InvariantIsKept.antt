@@ -28,7 +28,7 @@ more_words : (h : List Entry) (n : ℕ) → with_one_more (words_after h n) ≡ 
 unfolding board_of
 more_words h n = refl
 
--- an entry changes the words, and so does one reporter more
+-- the words of a board before and after an entry differ
 entry_differs : (h : List Entry) (n : ℕ) (e : Entry) → IsLegal (followed_by h e) → words_after h n ≢ words_after (followed_by h e) n
 entry_differs h n e legal same = search (arith, match_words h n, match_words (followed_by h e) n, one_word h e legal)
 
@@ -112,7 +112,7 @@ enlists seat v current next acts reader room is x views r here =
 pub begins : (words : List ℕ) → words ≡ words_after [] 0 → CellInvariant words (first_pass ∷ [])
 begins words are = opens_keep words_after IsLegalStep words are
 
--- the pass of a board that opens so occurs
+-- the first pass of a board that opens without events and reporters occurs
 pub opened_occurs : CellOccurs first_pass
 opened_occurs = (0, record { words = words_after [] 0; views = first_pass ∷ []; rule = begins (words_after [] 0) refl; here = refl })
 

@@ -125,7 +125,7 @@ pub full_time : (m : MatchRecord) → IsValid m → m.state ≡ InPlay → refus
 unfolding refusal_of
 full_time m v e = rw (eq-eqb m.number m.number refl, e, and-false (nat_le max_number_in_play m.number)) refl
 
--- what is reopened can be ended
+-- a match that has just been reopened has a valid record and accepts full time
 pub ends_again : (m : MatchRecord) (reporter : ℕ) → IsValid m → IsReporter reporter → refusal_of m m.number Reopen ≡ None
     → IsValid (after m reporter Reopen) × (refusal_of (after m reporter Reopen) (m.number + 1) FullTime ≡ None)
 unfolding after

@@ -55,7 +55,7 @@ ended kicks ends reopens c = rw (c.0, ne_eqb (ends + 1) reopens (λ e. let same 
 reopened : (kicks ends reopens : ℕ) → CaseOf Finished kicks ends reopens → state_by kicks ends (reopens + 1) ≡ InPlay
 reopened kicks ends reopens c = rw (c.0, eq-eqb ends (reopens + 1) c.1) refl
 
--- a case is that of one state alone
+-- the counts of kick-offs, full times and reopenings of a state are those of no other state
 case_state : (s : State) (kicks ends reopens : ℕ) → CaseOf s kicks ends reopens → s ≡ state_by kicks ends reopens
 case_state Scheduled kicks ends reopens c = rw c.0 refl
 case_state InPlay kicks ends reopens c = rw (c.0, eq-eqb ends reopens c.1) refl
@@ -94,7 +94,7 @@ same_case : (es : List MatchEntry) (e : MatchEntry) → is_kind KickOff e.kind �
     → is_kind Reopen e.kind ≡ false → (s : State) → IsCase s es → IsCase s (es ++ e ∷ [])
 same_case es e a b c s h = rw (no_more KickOff es e a, no_more FullTime es e b, no_more Reopen es e c) h
 
--- the case after one accepted entry more
+-- an accepted entry leads from the counts of kick-offs, full times and reopenings of a state to those of the next state
 case_next : (es : List MatchEntry) (r : ℕ) (kind : Kind) → IsCase (state_of es) es → Accepts (counted_match es) (length es) kind → IsCase (after (counted_match es) r kind).state (entered es r kind)
 unfolding counted_match after
 case_next es r KickOff h a =

@@ -110,7 +110,7 @@ reads_none word not = rw (
   false_from_ne_true (is_first_word word) (λ h. not.1 ((first_tested word).0 h)),
 ) refl
 
--- what is read is a word of this layout
+-- what a word is read as is a word of a valid record in the present layout
 pub read_valid : (word new : ℕ) → read_word word ≡ Some new → IsWord new
 unfolding read_word
 read_valid word new read = elim (cases_Bool (is_word word)) [

@@ -281,7 +281,7 @@ module _ (v x w : View) (words : List ℕ) (point i seat n : ℕ) (so_far : Seco
             (ap (λ (d : ClientState). d.first) is);
       }
 
--- tries of a reading
+-- from v to x the pass is as it was, or has taken steps of a reading and is before the first load of its next try
 abbrev pub Tries : View → View → Type 0
 Tries v x = (x ≡ v) ⊎ StaysIn v (Collecting []) x
 

@@ -339,7 +339,7 @@ takes_trail v w steps t = search (arith, append_assoc, accesses_append)
 abbrev plain : Access → Taken
 plain m = step_taken (Match m.kind m.game m.found) m.place m.at None
 
--- accesses of which none added an entry are such steps, one for each
+-- the steps of accesses that add no entry are one for each access
 all_plain : (ms : List Access) → steps_with None ms ≡ map plain ms
 all_plain [] = refl
 all_plain (m ∷ []) = refl
