@@ -41,7 +41,7 @@ use Rattle.std.proofs.Math.Seq.{take-append-add}
 use mathlib.Core.List.{IsPrefix}
 use Rattle.ucl_word.specs.declared.refusal.Refusal.TheVariants.{Stale}
 
--- the entries of a match in two histories, one after the other, and in one with an entry more, of this match or another
+-- the entries of a match in two histories, one after the other, are those in the first and then those in the second
 pub entries-append : (g : ℕ) (h l : List Entry) → entries_of g (h ++ l) ≡ entries_of g h ++ entries_of g l
 entries-append g h l = ap (map of_match) (filter-append (λ e. e.game == g) h l) ∙ map-append of_match (filter (λ e. e.game == g) h) (filter (λ e. e.game == g) l)
 
@@ -83,7 +83,7 @@ each_slot P a b c d n is = or_else P 1 a n (λ not_1. or_else P 2 b n (λ not_2.
 pub number_listed : (g d : ℕ) → IsMatch g → get_or match_numbers (g - 1) d ≡ g
 number_listed g d is = each_match (λ g. get_or match_numbers (g - 1) d ≡ g) refl refl refl refl refl refl refl refl refl refl refl refl g is
 
--- the board of no event
+-- twelve words of matches that have not kicked off are the board before any event
 pub board_none : replicate 12 (word_of scheduled) ≡ board_of []
 unfolding board_of counted_match
 board_none = refl
@@ -93,7 +93,7 @@ pub board_length : (h : List Entry) → length (board_of h) ≡ 12
 unfolding board_of
 board_length h = refl
 
--- each is the word of its match's record
+-- at each of its twelve places the board after a history has the word of the match's record after the history
 word_listed : (h : List Entry) (k d : ℕ) → k < 12 → get_or (board_of h) k d ≡ word_of (match_after h (get_or match_numbers k 0))
 unfolding board_of
 word_listed h k d below = get_or-map (λ game. word_of (match_after h game)) match_numbers k 0 d below
@@ -145,13 +145,13 @@ board_words h legal = record {
       rw at (record { of = match_after h (get_or match_numbers k 0); valid = match_valid (get_or match_numbers k 0) h legal; packed = refl });
 }
 
--- the reply after a history, by the board
+-- on the board after a legal history the reply to an event is that after the history
 pub reply_is : (h : List Entry) (words : List ℕ) (call : EventCall) → IsLegal h → board_of h ≡ words → IsMatch call.game → reply_of (game_at words call.game) call ≡ sequential_reply h call
 reply_is h words call legal is range =
     let was : game_at words call.game ≡ match_after h call.game = ap (λ (ws : List ℕ). game_at ws call.game) (sym is) ∙ game_after h call.game legal range in
     ap (λ (m : MatchRecord). reply_of m call) was
 
--- the reply to an event that the rules accept, or refuse
+-- if the rules accept an event on the record of its match, the reply to it is this acceptance, with the next event number
 pub accepted_reply : (m g : MatchRecord) (call : EventCall) (number : ℕ) → m ≡ g → refusal_of m call.expected call.kind ≡ None → number ≡ m.number + 1
     → Ok (record { number = number }) ≡ reply_of g call
 accepted_reply m g call number same none is = subst (λ (g : MatchRecord). Ok (record { number = number }) ≡ reply_of g call) same (rw is (sym (ap (λ (o : Option Refusal). answer m.number o) none)))
@@ -272,7 +272,7 @@ more h e g is = ap length (entries_same h e g is) ∙ length-append (entries_of 
 number_shown : (h : List Entry) (g : ℕ) → IsLegal h → (record_at (word_of (match_after h g))).number ≡ length (entries_of g h)
 number_shown h g legal = ap (λ (m : MatchRecord). m.number) (record_back (match_after h g) (match_valid g h legal)) ∙ number_of_count (entries_of g h)
 
--- the version of the board is the length of the history
+-- the version of the board before any event is 0
 version_none : version_of (board_of []) ≡ 0
 unfolding board_of counted_match word_of record_at
 version_none = refl
@@ -460,7 +460,7 @@ module _ {X : Type 0} where
   pub at_within : (s h : List X) (k : ℕ) (e : X) → IsPrefix s h → k < length s → slice_get h k ≡ Some e → slice_get s k ≡ Some e
   at_within s h k e p le at = get_back s p.0 k e le (ap (λ (z : List X). slice_get z k) p.1 ∙ at)
 
--- an attempt, and so attempts, leave the history as the beginning of that after them
+-- the history after an attempt begins with the history before it
 begins_attempt : (h : List Entry) (a : Attempt) (o : Option Refusal) → refusal_of (match_after h a.call.game) a.call.expected a.call.kind ≡ o → IsPrefix h (after_attempt h a)
 begins_attempt h a None none = rw none (begins_more h h (entry_of a.reporter a.call) (begins_same h))
 begins_attempt h a (Some r) some = rw some (begins_same h)
@@ -498,7 +498,7 @@ stale_again h a legal is not =
     let same : after_attempt h a ≡ h = rw stale refl in
     record { refused = rw stale refl; history_is = same; board_is = attempt_board h a legal is ∙ ap board_of same }
 
--- accepted events that are entered again are stale and change nothing, and a board goes on from a history
+-- an accepted attempt that is made again is stale and changes nothing, whatever was attempted since
 pub go_stale : AcceptedEventsGoStale
 go_stale h a attempts legal all ok =
     let is = All-head IsAttempt a attempts all in

@@ -17,7 +17,7 @@ use Rattle.ucl_board.specs.Log.{IsLegalStep, HasLegalSteps, LogFacts}
 use Rattle.ucl_board.proofs.HistoryTheorems.{at_beginning}
 use Rattle.ucl_board.specs.History.{IsLegal, MayFollow}
 
--- the history of two parts of a log, and how many they enlisted
+-- the history of two logs, one after the other, is that of the first and then that of the second
 pub history_append : (xs ys : Log) → history_of (xs ++ ys) ≡ history_of xs ++ history_of ys
 history_append xs ys = flat_map-append (λ (y : Logged). entry_list y.step.entry) xs ys
 
@@ -38,7 +38,7 @@ enlisted_append xs ys = ap length (flat_map-append (λ (y : Logged). enlists y.s
 pub enlisted_more : (log : Log) (x : Logged) → enlisted_by (log ++ x ∷ []) ≡ enlisted_by log + length (enlists x.step.target)
 enlisted_more log x = enlisted_append log (x ∷ []) ∙ ap (λ (l : List ℕ). enlisted_by log + length l) (append-nil (enlists x.step.target))
 
--- a longer log has a longer history, and enlisted no fewer
+-- the history of a log begins with the history of the beginning of the log
 pub history_on : (a b : Log) → IsPrefix a b → IsPrefix (history_of a) (history_of b)
 history_on a b p = (history_of p.0, sym (history_append a p.0) ∙ ap history_of p.1)
 
@@ -46,7 +46,7 @@ history_on a b p = (history_of p.0, sym (history_append a p.0) ∙ ap history_of
 pub enlisted_on : (a b : Log) → IsPrefix a b → enlisted_by a ≤ enlisted_by b
 enlisted_on a b p = let e = ap enlisted_by (sym p.1) ∙ enlisted_append a p.0 in omega arith
 
--- the steps of a seat in two parts of a log
+-- the steps of a seat in two logs, one after the other, are those in the first and then those in the second
 pub taken_append : (seat : ℕ) (xs ys : Log) → taken_by seat (xs ++ ys) ≡ taken_by seat xs ++ taken_by seat ys
 taken_append seat xs ys = ap (map (λ (x : Logged). x.step)) (filter-append (λ (x : Logged). x.seat == seat) xs ys)
     ∙ map-append (λ (x : Logged). x.step) (filter (λ (x : Logged). x.seat == seat) xs) (filter (λ (x : Logged). x.seat == seat) ys)
@@ -194,7 +194,7 @@ knows_all v before x is p same =
     nothing [] none = refl
     nothing (y ∷ l) none = absurd (omega arith)
 
--- the entries, the accesses and the number of steps with more at their end
+-- a step at the end of steps adds its entry, if it has one, to the end of their entries
 pub added_more : (steps : List Taken) (t : Taken) → added_by (steps ++ t ∷ []) ≡ added_by steps ++ entry_list t.entry
 added_more steps t = flat_map-append (λ (x : Taken). entry_list x.entry) steps (t ∷ []) ∙ ap (λ (l : List Entry). added_by steps ++ l) (append-nil (entry_list t.entry))
 
@@ -214,7 +214,7 @@ entries_by number history = filter (λ e. e.reporter == number) history
 entries_append : (n : ℕ) (xs ys : List Entry) → entries_by n (xs ++ ys) ≡ entries_by n xs ++ entries_by n ys
 entries_append n xs ys = filter-append (λ (e : Entry). e.reporter == n) xs ys
 
--- a legal history with an entry that a step may add is legal, and the history of legal steps is
+-- a legal history with an entry that a step may add at its end is legal
 legal_more : (h : List Entry) (n : ℕ) (o : Option Entry) → IsLegal h → MayAdd h n o → IsLegal (h ++ entry_list o)
 legal_more h n None legal may = subst IsLegal (sym (append-nil h)) legal
 legal_more h n (Some e) legal may = may_next MayFollow h e legal may.0
@@ -228,7 +228,7 @@ legal_history = may_induction IsLegalStep (λ l. IsLegal (history_of l)) (may_no
 abbrev InRank : ℕ → Entry → Type 0
 InRank n e = (0 < e.reporter) × (e.reporter ≤ n)
 
--- the entry of a step is of the reporter of its pass, and of no other
+-- an entry that a step may add is of the reporter of its pass
 own_entries : (h : List Entry) (n : ℕ) (o : Option Entry) → MayAdd h n o → entries_by n (entry_list o) ≡ entry_list o
 own_entries h n None may = refl
 own_entries h n (Some e) may = ap (λ (b : Bool). cond b (e ∷ []) []) (eq-eqb e.reporter n may.1)
@@ -327,7 +327,7 @@ module _ (log : Log) (r : LogFacts log) (x : Logged) where
         ];
       }
 
--- the facts of a log (LogFacts) hold with each legal step more, and of each log of legal steps
+-- the facts on reporters, their numbers and their entries (LogFacts) hold with each legal step more
 facts_next : (log : Log) → LogFacts log → (x : Logged) (t : Target) → x.step.target ≡ t → IsThere log t → MayEnlist (number_of (taken_by x.seat log)) t x.step.entry
     → MayAdd (history_of log) (number_of (taken_by x.seat log)) x.step.entry → LogFacts (log ++ x ∷ [])
 facts_next log r x (Enlists found) is there may adds = facts_more log r x found is there.0 there.1 may.0 may.1

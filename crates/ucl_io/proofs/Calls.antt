@@ -45,7 +45,7 @@ ended None left2 e moved = tt
 ended (Some xs) None e moved = absurd moved
 ended (Some xs) (Some ys) e moved = ap (λ (l : List ℕ). Some l) (sym moved ∙ e)
 
--- bytes that came before do not matter
+-- if the bytes left after some were taken come to an end, so do those left at first
 pub ended-since : (first left left2 : Option (List ℕ)) (bytes : List ℕ) → Consumes first left bytes → HasEnded left left2 → HasEnded first left2
 ended-since None left left2 bytes took h = tt
 ended-since (Some xs) None left2 bytes took h = absurd took

@@ -8,7 +8,7 @@ use Rattle.std.proofs.lemmas.Bool.Decides.{nat_tests}
 use Rattle.std.proofs.lemmas.List.{length-drop, take-append-drop, take-append-le, take_all, take_more}
 use Rattle.ucl_io.specs.Lines.{HasNoFeed, BeginsWithLine, begun_line, ended_lines, longer}
 
--- no bytes end no line, and what was kept of the line stays
+-- no bytes end no line
 pub ended_none : (cap : ℕ) (line : List ℕ) → ended_lines cap line [] ≡ []
 unfolding ended_lines
 ended_none cap line = refl
@@ -45,7 +45,7 @@ few_lines cap line (b ∷ bytes) = elim (cases_Bool (b == 10)) [
   | inr n ↦ rw n (let k = few_lines cap (longer cap line b) bytes in omega arith)
 ]
 
--- a line feed ends the line, and nothing of the next has begun
+-- a line feed ends the line that has begun, and no other
 pub ended_ten : (cap : ℕ) (line : List ℕ) (b : ℕ) → b ≡ 10 → ended_lines cap line (b ∷ []) ≡ line ∷ []
 unfolding ended_lines
 ended_ten cap line b e = rw e refl
@@ -100,7 +100,7 @@ unfolding begun_line
 begun_all cap line [] h short = sym (ap (take cap) (append-nil line) ∙ take_all cap line short)
 begun_all cap line (b ∷ bytes) h short = rw (ne_eqb b 10 h.0) (begun_all cap (longer cap line b) bytes h.1 (longer_short cap line b short) ∙ take_longer cap line bytes b)
 
--- nor is more kept of a line that has begun
+-- of a line that has begun no more than `cap` bytes are kept
 pub begun_short : (cap : ℕ) (line bytes : List ℕ) → length line ≤ cap → length (begun_line cap line bytes) ≤ cap
 unfolding begun_line
 begun_short cap line [] h = h

@@ -55,7 +55,7 @@ stopped_second before total failed old mid new a b written out total_is s = let 
   told = count_then before total written (length a) s.count total_is s.told;
 }
 
--- no text is put by nothing
+-- where nothing is done, the empty text has been put
 pub put_nothing : (a : Outlet) → a.out ≤ 2 ^ 64 - 1 → HasPut a a []
 put_nothing a h = record { given = []; went = Appends-nil a.taken; rest = sym (append-nil a.held); told = omega arith; sound = refl }
 
@@ -74,7 +74,7 @@ put_then a b c t u p q =
       sound = q.sound ∙ p.sound;
     }
 
--- the sink failed while a further text was put
+-- if the sink fails in the second of two texts, it fails in both as one text
 pub put_stops : (a b c : Outlet) (t u : List ℕ) (n : ℕ) → HasPut a b t → StopsIn b c u n → StopsIn a c (t ++ u) n
 put_stops a b c t u n p s =
     subst (λ (l : List ℕ). StoppedShort a.out c.failed a.taken c.taken l n) (all_put a b t u p)

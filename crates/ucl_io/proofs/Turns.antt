@@ -33,7 +33,7 @@ ends_put a b given text (Ok v) row p = (refl, refl, row, p)
 ends_put a b given text (Err (WriteFailed n)) row p = p
 ends_put _ _ _ _ _ _ p = absurd p
 
--- the same lines, written in another way
+-- what holds of a run over a list of lines holds over an equal list
 abbrev pub answered_as : {V M F : Type 0} {R : Rules M F} {a b : Progress M} {xs ys : List (List ℕ)} {r : Result V (ServeFault F)} → ys ≡ xs → Answered R a b xs r → Answered R a b ys r
 answered_as e p = record { given = p.given; rest = p.rest; text = p.text; fault = p.fault; lines_are = e ∙ p.lines_are; run = p.run; ends = p.ends }
 

@@ -7,7 +7,7 @@ use Rattle.ucl_board.specs.Log.{LogFacts}
 use Rattle.ucl_board.proofs.Logs.{taken_none, below_more, log_facts}
 use Rattle.ucl_live_board.proofs.Halves.{in_whole}
 
--- the first step of a log is the first of the seat that took it, and is not of another seat
+-- a step of a seat in front of a log is in front of the steps of this seat
 pub taken_here : (seat : ℕ) (t : Taken) (log : Log) → taken_by seat (logged_by seat t ∷ log) ≡ t ∷ taken_by seat log
 taken_here seat t log = search (arith, eq-eqb)
 
@@ -15,7 +15,7 @@ taken_here seat t log = search (arith, eq-eqb)
 pub taken_else : (seat other : ℕ) (t : Taken) (log : Log) → other ≢ seat → taken_by seat (logged_by other t ∷ log) ≡ taken_by seat log
 taken_else seat other t log not = search (arith, ne_eqb)
 
--- a step of its own is among a seat's steps
+-- a log with a step of a seat in front has a step of this seat
 pub some_here : (seat : ℕ) (t : Taken) (log : Log) → taken_by seat (logged_by seat t ∷ log) ≢ []
 some_here seat t log none = let l = ap length (sym (taken_here seat t log) ∙ none) in omega arith
 
@@ -42,7 +42,7 @@ none_beyond n j log le all = taken_none j log (below_more n j log le all)
 pub some_acts : (s : Share) → s ≢ None → IsSome s
 some_acts s not = search arith
 
--- the history of the steps of one seat
+-- the history of a log of one seat's steps is the entries that these steps added
 history_by : (seat : ℕ) (steps : List Taken) → history_of (map (logged_by seat) steps) ≡ added_by steps
 history_by seat [] = refl
 history_by seat (t ∷ steps) = ap (λ (l : List Entry). entry_list t.entry ++ l) (history_by seat steps)

@@ -10,7 +10,7 @@ use Rattle.ucl_live_board.specs.LiveRecords.{LiveMet}
 use Rattle.ucl_live_board.specs.Passes.{Enlistment}
 use Rattle.ucl_live_board.proofs.StepFacts.{Goes, Sees, Adds, GivesNumber, sound}
 
--- no steps lead from a view to itself; steps from u to v and then steps from v to w lead from u to w
+-- no steps lead from a view to itself
 pub takes_none : (v : View) → Takes v [] v
 takes_none v = record { own = sym (append-nil v.own); copied = refl }
 
@@ -34,7 +34,7 @@ pub record Stays (v w : View) : Type 0 where
 pub stays_none : (v : View) → Stays v v
 stays_none v = record { seen = begins_same (history_of v.log); listed = le_refl (enlisted_by v.log); share = refl; mine = refl; number = refl }
 
--- such steps, and then one that added no entry and gave no number, are such steps
+-- a pass that stays from v to w, and then takes a step that adds no entry and gives no number, stays from v
 pub stays_more : (v w u : View) (target : Target) → Stays v w → Sees target w u → Stays v u
 stays_more v w u target t sees = search (arith, begins_through)
 

@@ -321,7 +321,7 @@ pub split_occurs : (words_after : List Entry → ℕ → List ℕ) (May : Log �
 split_occurs words_after May v left second kept given = subst (λ (u : View). BothOccur words_after May v u second) (sym kept)
     (subst (λ (u : View). BothOccur words_after May v (left_pass v) u) (sym given) (both_there words_after May v))
 
--- and so do both
+-- if a pass occurs, each of the two passes that a split makes of it occurs
 pub both_occur : (words_after : List Entry → ℕ → List ℕ) (May : Log → Logged → Type 0) (v left second : View) → BothOccur words_after May v left second
     → OccursSomewhere words_after May v → OccursSomewhere words_after May left × OccursSomewhere words_after May second
 both_occur words_after May v left second split was =

@@ -14,7 +14,7 @@ use Rattle.ucl_live_board.specs.Settling.{AreAlone, both_accepted, Settled, IsOf
 pub by_more : (n : ℕ) (s h : List Entry) (p : IsPrefix s h) → entries_by n h ≡ entries_by n s ++ entries_by n p.0
 by_more n s h p = ap (entries_by n) (sym p.1) ∙ filter-append (λ (e : Entry). e.reporter == n) s p.0
 
--- an entry at the end of a history is the last of its reporter's, and none of another reporter's
+-- an entry of a reporter at the end of a history is at the end of this reporter's entries
 pub by_own : (n : ℕ) (h : List Entry) (e : Entry) → e.reporter ≡ n → entries_by n (followed_by h e) ≡ followed_by (entries_by n h) e
 by_own n h e is = filter-append (λ (x : Entry). x.reporter == n) h (e ∷ []) ∙ ap (λ (b : Bool). entries_by n h ++ cond b (e ∷ []) []) (eq-eqb e.reporter n is)
 
@@ -34,7 +34,7 @@ few_mine k s =
     let o = ap length s.own in
     omega arith
 
--- a pass that no call changed
+-- a sound pass that no call changed holds all that a pass keeps over a call
 pub unchanged : (k m : PassView) → IsSound k → m ≡ k → Continues k m
 unchanged k m sound same = subst (Continues k) (sym same) (record { sound = sound; on = record { seen = begins_same k.seen; listed = le_refl k.listed; share = refl }; number = refl })
 
@@ -50,7 +50,7 @@ differ a b r is said same = true≢false (sym said ∙ (is ∙ ap not (eq-eqb a 
 pub one_number : (a b : ℕ) (r : Bool) → r ≡ not (a == b) → r ≡ false → a ≡ b
 one_number a b r is said = grind (arith, nat_tests)
 
--- the entries of neither
+-- the entries that are of neither of two reporters
 abbrev others : ℕ → ℕ → List Entry → List Entry
 others a b t = filter (λ (e : Entry). not (e.reporter == a) && not (e.reporter == b)) t
 

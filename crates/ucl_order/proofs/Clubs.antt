@@ -5,7 +5,7 @@ use Rattle.ucl_order.proofs.Common.{cases_Bool, inl, inr, nat_tests, slice_index
 use Rattle.std.proofs.lemmas.List.{get_or-map}
 use Rattle.ucl_order.proofs.Slots.{by_four}
 
--- the club of each place is good
+-- each of the four members of a roster shows a good club
 pub member_good : (members : List Member) (i : ℕ) (m : Member) → IsRoster (members_seen members) → i < 4 → IsClub (member_seen (slice_index_or members i m))
 member_good members i m roster within =
     let same = get_or-map member_seen members i m (member_seen m) in
@@ -14,12 +14,12 @@ member_good members i m roster within =
     let inside_too : i < length (members_seen members) = omega arith in
     subst IsClub (same inside) (All-get_or IsClub (members_seen members) i (member_seen m) inside_too roster.each)
 
--- its name is good
+-- each of the four members of a roster has a good name
 pub name_good : (members : List Member) (i : ℕ) (m : Member) → IsRoster (members_seen members) → i < 4 → is_name (slice_index_or members i m).name.items ≡ true
 unfolding is_club
 name_good members i m roster within = (and_parts _ _ (member_good members i m roster within)).0
 
--- its coefficient is at most 999,999
+-- each of the four members of a roster has a coefficient of at most 999,999
 pub coefficient_good : (members : List Member) (i : ℕ) (m : Member) → IsRoster (members_seen members) → i < 4 → (slice_index_or members i m).coefficient ≤ 999999
 unfolding is_club
 coefficient_good members i m roster within =
@@ -27,7 +27,7 @@ coefficient_good members i m roster within =
     (and_parts (is_name (slice_index_or members i m).name.items) _ (member_good members i m roster within)).1 in
     grind (arith, nat_tests)
 
--- an array of four, place by place
+-- an array of four is the list of what stands at its places
 pub four-places : {X : Type 0} → (xs : List X) (a b c d : X) → length xs ≡ 4
     → a ≡ slice_index_or xs 0 a → b ≡ slice_index_or xs 1 b → c ≡ slice_index_or xs 2 c → d ≡ slice_index_or xs 3 d
     → xs ≡ a ∷ b ∷ c ∷ d ∷ []
@@ -47,7 +47,7 @@ pub four-taken : (a b c d : NamedClub) (w x y z : Member) → IsTaken a w → Is
 unfolding bad_slot_from
 four-taken a b c d w x y z p q r s = (rw (p.same, q.same, r.same, s.same), rw (p.good, q.good, r.good, s.good))
 
--- the same of clubs that are lent
+-- what the roster keeps of four good clubs that are lent shows those clubs, and none of their slots is bad
 pub four-lent : (clubs : List LentClub) (p q r s : LentClub) (w x y z : Member) → length clubs ≡ 4
     → IsClub (club_lent (slice_index_or clubs 0 p)) × (member_seen w ≡ club_lent (slice_index_or clubs 0 p))
     → IsClub (club_lent (slice_index_or clubs 1 q)) × (member_seen x ≡ club_lent (slice_index_or clubs 1 q))

@@ -83,7 +83,7 @@ record Between (club : ℕ) (games board later : List ℕ) : Type 0 where
   low : points club (finished (board_part board games)) ≤ points club (started (board_part later games))
   high : points club (started (board_part later games)) ≤ points club (finished (board_part board games)) + 3 * played club (unfinished (board_part board games))
 
--- which club plays in a match is the same whatever is known of it
+-- whether a club plays in a match does not depend on the numbers of the match
 plays_alike : (at_home away : Bool) (h v h' v' : Appearance)
     → plays (if at_home then Some h else (if away then Some v else None)) ≡ plays (if at_home then Some h' else (if away then Some v' else None))
 unfolding plays
@@ -167,7 +167,7 @@ pass_stronger : (last_club last_other reach_club sure_other : ℕ) (b : Bool) �
     → sure_other ≤ last_other → (b && nat_lt reach_club sure_other) ≡ true → (b && nat_lt last_club last_other) ≡ true
 pass_stronger p q r s b l h e = grind (arith, nat_tests, cases_Bool b)
 
--- whether a club is among the first two of an order
+-- a club that the test finds among the first two of an order is one of them
 through_if : (order : List ℕ) (club : ℕ) → is_in (take 2 order) club ≡ true → Contains (take 2 order) club
 through_if order club h = Contains-from_any {eq = λ x y. y == x} (λ x y e. sym (eqb-true y x e)) club (take 2 order) h
 

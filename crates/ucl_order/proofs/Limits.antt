@@ -63,17 +63,17 @@ pub filter-less : (f : List Match → ℕ) (part : Match → ℕ) → ((m : Matc
 filter-less f part more p [] = omega arith
 filter-less f part more p (m ∷ ms) = search (arith, filter-less f part more p ms, more m ms, more m (filter p ms))
 
--- some of the matches are no more than all
+-- a club plays in no more of some of the matches than of all
 pub played-filter : (p : Match → Bool) (club : ℕ) (ms : List Match) → played club (filter p ms) ≤ played club ms
 played-filter p club ms = filter-less (played club) (λ m. plays (seen_by club m)) (played-cons club) p ms
 
--- some of the matches, and the others, are all
+-- a club plays in so many of the matches that pass a test, and so many of the others, as of all
 pub played-parts : (p : Match → Bool) (club : ℕ) (ms : List Match) → played club (filter p ms) + played club (filter (λ m. not (p m)) ms) ≡ played club ms
 played-parts p club [] = refl
 played-parts p club (m ∷ ms) =
     search (arith, played-parts p club ms, played-cons club m ms, played-cons club m (filter p ms), played-cons club m (filter (λ m. not (p m)) ms))
 
--- each club has six matches
+-- each club plays six of the matches of a board
 pub six : (board : List ℕ) (club : ℕ) → IsSlot club → played club (matches_of board) ≡ 6
 unfolding matches_of
 six board club slot = each_slot (λ c. played c (matches_of board) ≡ 6) refl refl refl refl club slot
@@ -124,7 +124,7 @@ visits-cons club m ms = visits_one (seen_by club m) (appearances club ms)
 visits-filter : (p : Match → Bool) (club : ℕ) (ms : List Match) → length (away_matches club (filter p ms)) ≤ length (away_matches club ms)
 visits-filter p club ms = filter-less (λ l. length (away_matches club l)) (λ m. visits (seen_by club m)) (visits-cons club) p ms
 
--- each club has three away matches
+-- each club has three away matches on a board
 three : (board : List ℕ) (club : ℕ) → IsSlot club → length (away_matches club (matches_of board)) ≡ 3
 unfolding matches_of
 three board club slot = each_slot (λ c. length (away_matches c (matches_of board)) ≡ 3) refl refl refl refl club slot

@@ -63,7 +63,7 @@ module _ (target : Target) (entry : Option Entry) (v w : View) (x y : List ℕ) 
   pub now_is : entry ≡ None → s.steps.step.at ≡ length (history_of w.log)
   now_is none = facts.at_is words_after IsLegalStep s.seat target v w s.steps (λ log is legal. legal) (s.entry_is ∙ none)
 
--- a pass, after loads of words and exchanges that were missed
+-- from v to w a pass made only loads and missed exchanges: it knows no less, has shown no further reading, and has a share
 pub record Looked (v w : View) : Type 0 where
   pub stays : Stays v w
   pub shown : versions_loaded w.own ≡ versions_loaded v.own
@@ -91,7 +91,7 @@ module _ (v w u : View) (x : List ℕ) (before : Looked v w) (looked : LooksOnly
   look_continues : Continues (cell_pass_view v) (cell_pass_view u)
   look_continues = stays_continue versions_loaded v w u looked_more.stays looks.goes
 
--- a pass, after tries that were lost
+-- from v to w a pass made only tries that were all lost
 pub record Tried (GoesOn : View → Type 0) (v w : View) : Type 0 where
   pub looked : Looked v w
   pub lost : ℕ
@@ -331,12 +331,12 @@ was_split k m n sound own other left given = record {
   occurs = split_occurs words_after IsLegalStep k.view m.view n.view left given;
 }
 
--- and both are passes of the board
+-- the two passes that a split makes of a pass of a board are passes of it
 pub split_own : (board : TableId) (k m n : CellPass) → CellSplit k m n → IsCellPassOf board k → IsCellPassOf board m × IsCellPassOf board n
 split_own board k m n split is =
     let both = both_occur words_after IsLegalStep k.view m.view n.view split.occurs is.1 in
     ((split.own.0 ∙ is.0, both.0), (split.own.1 ∙ is.0, both.1))
 
--- so are two that met
+-- two passes of a board are passes of it after they have met
 pub met_own : (board : TableId) (a b k m : CellPass) → CellMet a b k m → IsCellPassOf board a × IsCellPassOf board k → IsCellPassOf board b × IsCellPassOf board m
 met_own board a b k m met is = (subst (λ (c : CellPass). IsCellPassOf board c) (sym met.unchanged) is.0, (met.own.1 ∙ is.1.0, met.occurs))

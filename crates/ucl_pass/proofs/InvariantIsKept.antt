@@ -28,7 +28,7 @@ more_words : (h : List Entry) (n : ℕ) → with_one_more (words_after h n) ≡ 
 unfolding board_of
 more_words h n = refl
 
--- an entry changes the words, and so does one reporter more
+-- the words of a board before and after an entry differ
 entry_differs : (h : List Entry) (n : ℕ) (e : Entry) → IsLegal (followed_by h e) → words_after h n ≢ words_after (followed_by h e) n
 entry_differs h n e legal same = search (arith, match_words h n, match_words (followed_by h e) n, one_word h e legal)
 
@@ -83,7 +83,7 @@ module _ (x : List ℕ) (views : List View) (r : CellInvariant x views) (seat : 
       (more ∙ words_enlisted words_after IsLegalStep x views r seat v here (taken target None) refl refl) in
       (t.0, t.1, inr (λ same. reporter_differs h (enlisted_by r.log) (sym r.words_are ∙ (same ∙ more)), t.2))
 
--- the cell allows a pass with a share a load that is no reading, and one that is
+-- the cell allows a pass with a share a load of all words that is no reading
 pub looks : (seat : ℕ) (v : View) → IsSome v.share → Turns CellInvariant seat v (λ x. x) LooksOnly
 looks seat v acts x views r here = load x views r seat v here acts false
 
@@ -112,11 +112,11 @@ enlists seat v current next acts reader room is x views r here =
 pub begins : (words : List ℕ) → words ≡ words_after [] 0 → CellInvariant words (first_pass ∷ [])
 begins words are = opens_keep words_after IsLegalStep words are
 
--- the pass of a board that opens so occurs
+-- the first pass of a board that opens without events and reporters occurs
 pub opened_occurs : CellOccurs first_pass
 opened_occurs = (0, record { words = words_after [] 0; views = first_pass ∷ []; rule = begins (words_after [] 0) refl; here = refl })
 
--- a split keeps the invariant, and so do the making of a note and the taking in of a note by another pass
+-- a split of a pass keeps the invariant
 pub seconds : (seat : ℕ) (v : View) → Forks CellInvariant seat v (left_pass v) (second_pass v)
 seconds seat v x views r here = seconds_keep words_after IsLegalStep x views r seat v here
 

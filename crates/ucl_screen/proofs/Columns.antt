@@ -68,7 +68,7 @@ printed_ascii : (bs : List ℕ) → list_all is_printed bs ≡ true → IsAscii 
 printed_ascii [] h = IsAscii-nil
 printed_ascii (b ∷ bs) h = let e = and_parts (is_printed b) (list_all is_printed bs) h in IsAscii-cons b bs (below b e.0) (printed_ascii bs e.1)
 
--- printed bytes are UTF-8, and so is the name of a club
+-- printed bytes are UTF-8
 pub printed_utf8 : (bs : List ℕ) → list_all is_printed bs ≡ true → IsUtf8 bs
 printed_utf8 bs h = IsUtf8-from_ascii bs (printed_ascii bs h)
 
@@ -76,7 +76,7 @@ printed_utf8 bs h = IsUtf8-from_ascii bs (printed_ascii bs h)
 pub name_text : (name : List ℕ) → is_name name ≡ true → IsUtf8 name
 name_text name h = printed_utf8 name (and_parts _ _ h).1
 
--- a line of one part, and of two
+-- a line with nothing after its first text is this text
 pub one_part : (before : List ℕ) → before ++ [] ++ [] ≡ before
 one_part before = append-nil (before ++ []) ∙ append-nil before
 

@@ -11,7 +11,7 @@ number-is most text a b = grind (arith, nat_tests)
 digit-true : (b : ℕ) → 48 ≤ b → b ≤ 57 → is_digit b ≡ true
 digit-true b p q = grind (arith, nat_tests)
 
--- the digits of a text from place i on, after the number n: one digit more, a byte that is none, and the end
+-- a digit at place i of a text is read onto the number n of the digits before, and the rest from place i + 1 on
 pub more-digits : (n i : ℕ) (text : List ℕ) → i < length text → 48 ≤ get_or text i 0 → get_or text i 0 ≤ 57
     → digits_after n (drop i text) ≡ digits_after (10 * n + (get_or text i 0 - 48)) (drop (i + 1) text)
 unfolding digits_after
@@ -44,7 +44,7 @@ one-more-digit n i d h k = rw (add-one i, pow-suc 10 i) (omega arith)
 pub word-is : (text : List ℕ) → length text ≡ 16 → hex_word text ≡ hex_after 0 text
 word-is text e = rw e refl
 
--- the hexadecimal digits from place i on, after the number n: one digit more, a byte that is none, and the end
+-- a hexadecimal digit at place i of a text is read onto the number n of the digits before, and the rest from place i + 1 on
 pub more-hex : (n i d : ℕ) (text : List ℕ) → i < length text → hex_digit (get_or text i 0) ≡ Some d
     → hex_after n (drop i text) ≡ hex_after (16 * n + d) (drop (i + 1) text)
 unfolding hex_after

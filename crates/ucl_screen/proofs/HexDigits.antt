@@ -77,7 +77,7 @@ digits-at k n e = rw e refl
 spelled-word : (j n : ℕ) → suc j ≡ 64 → n < 2 ^ 64 → Spelled 15 n [] (digits 16 false n)
 spelled-word j n e small = subst (Spelled 15 n []) (digits-at (suc j) n e) (spelled 15 j n [] (omega arith) (omega arith))
 
--- a word in sixteen digits
+-- a word in sixteen hexadecimal digits is its last sixteen digits
 pub word-digits : (n : ℕ) → n < 2 ^ 64 → hex_digits n ≡ low 16 n []
 unfolding padded_integral char_count
 word-digits n small =
@@ -86,7 +86,7 @@ word-digits n small =
     let count : 16 - length s.spelt - 0 - 0 ≡ 16 - length s.spelt = omega arith in
     rw (e, count) s.filled
 
--- one digit more, of the sixteen
+-- with the last digit of `rest` set at the next place to the left, the digits of what is left and those set are the word's
 pub digits-step : (word place rest : ℕ) (old new : List ℕ) (digit : ℕ) → 0 < place → place ≤ length old → digit ≡ digit_glyph false (rest % 16)
     → new ≡ set old (place - 1) digit → low place rest (drop place old) ≡ low 16 word [] → low (place - 1) (rest / 16) (drop (place - 1) new) ≡ low 16 word []
 digits-step word place rest old new digit some short is e so_far =

@@ -3,7 +3,7 @@ use Rattle.ucl_screen.proofs.Common.{Bool, IsGroup, List, None, Some, [], and_pa
 use Rattle.ucl_screen.proofs.Common.{slice_index_or, true, ℕ, ◌&&◌, ◌<◌, ◌∷◌, ◌≡◌, ◌≤◌}
 use Rattle.std.proofs.Common.{le-leb, leb-true}
 
--- a text is the letter of a group if it has one byte, which is one from A to H, and else none
+-- a text of one byte from A to H gives this letter
 pub is_letter : (text : List ℕ) → 1 ≤ length text → length text < 2 → IsGroup (slice_index_or text 0 0) → Some (slice_index_or text 0 0) ≡ letter_in text
 is_letter (x ∷ []) some one group = rw (le-leb 65 x group.0, le-leb x 72 group.1) refl
 is_letter text some one group = absurd (omega arith)

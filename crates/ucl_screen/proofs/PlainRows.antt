@@ -15,7 +15,7 @@ use Rattle.csv.specs.declared.parser.Terminator.TheVariants as term
 use Rattle.csv.specs.declared.parser.State.TheVariants as st
 use Rattle.csv.specs.declared.parser.Action.TheVariants as act
 
--- a text, cut anywhere, and what follows it
+-- a text and what follows it are the text up to a place and then the rest with what follows
 cut : (text tail : List ℕ) (at : ℕ) → text ++ tail ≡ take at text ++ (drop at text ++ tail)
 cut text tail at = ap (λ (l : List ℕ). l ++ tail) (sym (take-append-drop at text)) ∙ append_assoc (take at text) (drop at text) tail
 
@@ -65,7 +65,7 @@ bare_field (b ∷ text) (suc at) bare h =
 bare_field [] (suc at) bare h = record { state = st.StartField; reads = λ tail fields. refl; goes_on = λ c e. rw e refl; may_end = refl }
 bare_field text zero bare h = record { state = st.StartField; reads = λ tail fields. refl; goes_on = λ c e. rw e refl; may_end = refl }
 
--- a field in quotes, behind the first of them
+-- a text that begins with a quote begins with the field of its bytes up to the next quote
 pub quoted_field : (text : List ℕ) (at : ℕ) → (get_or text 0 0 == 34) ≡ true → list_all is_quotable (take at (drop 1 text)) ≡ true → at < length (drop 1 text) → get_or (drop 1 text) at 0 ≡ 34
     → BeginsWithField text (take at (drop 1 text)) (drop (at + 1) (drop 1 text))
 unfolding next_record
@@ -95,7 +95,7 @@ line-end b h = elim (cases_Bool (b == 44)) [ inl y ↦ absurd (grind (arith, nat
 between : (b : ℕ) → ends_at_end (after_end term.CRLF b) ≡ false
 between b = elim (cases_Bool (b == 13)) [ inl y ↦ rw y refl | inr n ↦ rw n refl ]
 
--- the same next record leaves the same rows
+-- two states between records whose next record, on their texts, is the same read the same rows
 same-rows : (s z : State) (xs ys : List ℕ) → ends_at_end s ≡ false → ends_at_end z ≡ false → next_record default_config s [] [] xs ≡ next_record default_config z [] [] ys
     → rows_from s (Some xs) ≡ rows_from z (Some ys)
 same-rows s z xs ys j k h = by (next_record default_config z [] [] ys) refl where
@@ -211,7 +211,7 @@ unfolding strip_bom
 marked (a ∷ b ∷ c ∷ text) tail h p q r = rw (p, q, r) refl
 marked text tail h p q r = absurd (omega arith)
 
--- no end of a line is in a mark
+-- a text without a byte order mark has none with an end of a line after it
 pub unmarked : (text tail : List ℕ) → AtLineEnd tail → (3 ≤ length text → get_or text 0 0 ≡ 0xEF → get_or text 1 0 ≡ 0xBB → get_or text 2 0 ≡ 0xBF → ⊥) → strip_bom (text ++ tail) ≡ text ++ tail
 unfolding strip_bom
 unmarked (a ∷ b ∷ c ∷ text) tail t h = elim (cases_Bool (is_bom a b c)) [

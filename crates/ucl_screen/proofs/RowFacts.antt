@@ -88,7 +88,7 @@ few (suc n) s (c ∷ xs) b = elim (read-cases (next_record default_config s [] [
       rw some.1 (omega arith)
 ]
 
--- the first record, and those after it
+-- where a record is read, the rows are this record and those of what is left
 pub rows-next : (s : State) (xs : List ℕ) (p : Read) → ends_at_end s ≡ false → next_record default_config s [] [] xs ≡ Some p
     → rows_from s (Some xs) ≡ p.0 ∷ rows_from p.1 (Some p.2)
 unfolding rows_from records_from

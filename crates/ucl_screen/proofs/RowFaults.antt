@@ -44,7 +44,7 @@ both-known : (old : Option (List ℕ)) (P Q : List ℕ → Type 0) → IfSome ol
 both-known None P Q p q = tt
 both-known (Some xs) P Q p q = q xs p
 
--- a sheet whose words are read as a board is taken, and one with a bad word is refused for it
+-- a sheet whose words are all read as words of the present layout is taken, as the definition says
 pub sheet-taken : (sheet : Sheet) (words : List ℕ) (old new : Option (List ℕ)) (failed : Bool) (bytes : List ℕ) → failed ≡ false
     → IfSome old (λ xs. whole_input xs ≡ Ok bytes) → rows_say bytes (Ok (record { clubs = sheet.roster; words = words }))
     → read_words 1 words ≡ Ok sheet.board → Reads MeansSheet sheet_seen old new failed (Ok sheet)

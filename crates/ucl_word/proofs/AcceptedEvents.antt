@@ -47,7 +47,7 @@ accepts m expected kind h =
 pub expects_number : (m : MatchRecord) (expected : ℕ) (kind : Kind) → Accepts m expected kind → expected ≡ m.number
 expects_number m expected kind a = let is = a.current in grind (arith, nat_tests)
 
--- what the tests of a refusal leave of the state: in play, scheduled or finished
+-- what the tests of a refusal leave of the state for any other event than a kick-off or reopening: it is in play
 pub begun : (s : State) → (is_finished s && true) ≡ false → (is_scheduled s && true) ≡ false → s ≡ InPlay
 begun s f h = search arith
 
@@ -125,7 +125,7 @@ pub full_time : (m : MatchRecord) → IsValid m → m.state ≡ InPlay → refus
 unfolding refusal_of
 full_time m v e = rw (eq-eqb m.number m.number refl, e, and-false (nat_le max_number_in_play m.number)) refl
 
--- what is reopened can be ended
+-- a match that has just been reopened has a valid record and accepts full time
 pub ends_again : (m : MatchRecord) (reporter : ℕ) → IsValid m → IsReporter reporter → refusal_of m m.number Reopen ≡ None
     → IsValid (after m reporter Reopen) × (refusal_of (after m reporter Reopen) (m.number + 1) FullTime ≡ None)
 unfolding after

@@ -28,7 +28,7 @@ added : (side : Side) (m : MatchRecord) → (word_of (changed_by (Goal side) m) 
 unfolding word_of
 added side m = (search arith, search arith, search arith)
 
--- a goal that is disallowed, a reopening and a second yellow card lower it
+-- a disallowed goal takes one from the side's field of goals
 goal_taken : (side : Side) (m : MatchRecord) → 0 < goals side m → word_of (changed_by (Disallow side) m) + 2 ^ (goals_field side).low ≡ word_of m
 unfolding word_of
 goal_taken side m some = search arith
@@ -71,7 +71,7 @@ reporter_below : (kind : Kind) (m : MatchRecord) (reporter : ℕ) → reporter *
 unfolding word_of after
 reporter_below kind m reporter = omega arith
 
--- what is known of the word after an accepted event, where the change of its kind and the reporter before are known
+-- `next` is valid; its word is `changed`, with one event more and `reporter` in place of `before`, the reporter that stood there
 pub record Entered (changed before reporter : ℕ) (next : MatchRecord) : Type 0 where
   pub valid : IsValid next
   pub sum : word_of next + before * 2 ^ layout.reporter.low ≡ changed + 1 + reporter * 2 ^ layout.reporter.low

@@ -43,7 +43,7 @@ more_left a b = omega arith
 abbrev state_by : ℕ → ℕ → ℕ → State
 state_by kicks ends reopens = if kicks == 0 then Scheduled else (if ends == reopens then InPlay else Finished)
 
--- a kick-off, full time and a reopening lead from the case of one state to that of the next
+-- a kick-off leads from the case of a scheduled match to the state in play
 kicked_off : (kicks ends reopens : ℕ) → CaseOf Scheduled kicks ends reopens → state_by (kicks + 1) ends reopens ≡ InPlay
 kicked_off kicks ends reopens c = rw (c.0, c.1, c.2) refl
 
@@ -55,7 +55,7 @@ ended kicks ends reopens c = rw (c.0, ne_eqb (ends + 1) reopens (λ e. let same 
 reopened : (kicks ends reopens : ℕ) → CaseOf Finished kicks ends reopens → state_by kicks ends (reopens + 1) ≡ InPlay
 reopened kicks ends reopens c = rw (c.0, eq-eqb ends (reopens + 1) c.1) refl
 
--- a case is that of one state alone
+-- the counts of kick-offs, full times and reopenings of a state are those of no other state
 case_state : (s : State) (kicks ends reopens : ℕ) → CaseOf s kicks ends reopens → s ≡ state_by kicks ends reopens
 case_state Scheduled kicks ends reopens c = rw c.0 refl
 case_state InPlay kicks ends reopens c = rw (c.0, eq-eqb ends reopens c.1) refl
@@ -94,7 +94,7 @@ same_case : (es : List MatchEntry) (e : MatchEntry) → is_kind KickOff e.kind �
     → is_kind Reopen e.kind ≡ false → (s : State) → IsCase s es → IsCase s (es ++ e ∷ [])
 same_case es e a b c s h = rw (no_more KickOff es e a, no_more FullTime es e b, no_more Reopen es e c) h
 
--- the case after one accepted entry more
+-- an accepted entry leads from the counts of kick-offs, full times and reopenings of a state to those of the next state
 case_next : (es : List MatchEntry) (r : ℕ) (kind : Kind) → IsCase (state_of es) es → Accepts (counted_match es) (length es) kind → IsCase (after (counted_match es) r kind).state (entered es r kind)
 unfolding counted_match after
 case_next es r KickOff h a =
@@ -115,7 +115,7 @@ balanced_none = record { goals = λ side. le_refl 0; yellows = λ side. le_refl 
 stands : (given taken : ℕ) → (given - taken == 0) ≡ false → taken < given
 stands given taken h = grind (arith, nat_tests)
 
--- an accepted disallowed goal follows a goal that stands, and a second yellow card a yellow one that stands
+-- if the counted record has a goal for one to be disallowed, there are fewer disallowed goals than goals
 goal_stands : (es : List MatchEntry) (side : Side) (kind : Kind) → lacks_goal (counted_match es) kind ≡ false → is_kind (Disallow side) kind ≡ true → count (Disallow side) es < count (Goal side) es
 unfolding counted_match
 goal_stands es Home (Disallow Home) h is = stands _ _ h

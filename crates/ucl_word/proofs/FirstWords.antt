@@ -46,7 +46,7 @@ moves_to_word word first = record { of = first.of; valid = first.valid.valid; pa
 pub first_high : (word : ℕ) → IsFirstWord word → HasLayoutTag first_layout word
 first_high word is = rw (← is.packed) (first_told is.of is.valid).high_is
 
--- two records with one word in the first layout are one, and no word is of both layouts
+-- two records with one word in the first layout are one
 pub first_apart : (m n : MatchRecord) → IsFirstValid m → IsFirstValid n → first_word_of m ≡ first_word_of n → m ≡ n
 first_apart m n v w e = sym (first_back m v) ∙ (ap (record_told first_layout.number.width) e ∙ first_back n w)
 
@@ -90,7 +90,7 @@ first_tested word = (
       rw (record_of_first word is, is.valid.valid, room, eq-eqb (first_word_of m) word is.packed) refl,
 )
 
--- what a word of each layout is read as, and that no other word is read
+-- a word of the present layout is read as itself
 pub reads_word : (word : ℕ) → IsWord word → read_word word ≡ Some word
 unfolding read_word
 reads_word word is = rw ((word_tested word).1 is) refl
@@ -110,7 +110,7 @@ reads_none word not = rw (
   false_from_ne_true (is_first_word word) (λ h. not.1 ((first_tested word).0 h)),
 ) refl
 
--- what is read is a word of this layout
+-- what a word is read as is a word of a valid record in the present layout
 pub read_valid : (word new : ℕ) → read_word word ≡ Some new → IsWord new
 unfolding read_word
 read_valid word new read = elim (cases_Bool (is_word word)) [

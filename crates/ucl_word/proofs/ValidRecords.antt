@@ -60,7 +60,7 @@ pub scheduled_valid : IsValid scheduled
 unfolding is_valid
 scheduled_valid = refl
 
--- what the code's default record ensures
+-- a scheduled record with every number 0 is the record of a match that has not kicked off
 pub default_is : (m : MatchRecord) → (m.number ≡ 0) × ((m.state ≡ Scheduled) × ((m.home_goals ≡ 0) × ((m.away_goals ≡ 0) ×
     ((m.home_yellows ≡ 0) × ((m.away_yellows ≡ 0) × ((m.home_expulsions ≡ 0) × ((m.away_expulsions ≡ 0) × (m.reporter ≡ 0))))))))
     → m ≡ scheduled

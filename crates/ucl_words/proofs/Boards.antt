@@ -130,7 +130,7 @@ second_consistent v consistent = record {
   trail = subst (λ (l : List Taken). Follows (history_of v.log) 0 (accesses_in l) (length (history_of v.log))) (sym (append-nil (steps_of v))) consistent.trail;
 }
 
--- and the pass that it was split off
+-- a consistent pass is consistent after another was split off it
 pub left_consistent : (v : View) → IsConsistent v → IsConsistent (left_pass v)
 left_consistent v consistent = record { sound = sound_left versions_shown v consistent.sound; told = consistent.told; trail = consistent.trail }
 
@@ -281,7 +281,7 @@ splits_on left right log still s seat v here j w at acts =
     let t = later_set s seat v (left v) s.words here (subst (IsPrefix v.log) (sym (log v)) (begins_same v.log)) (still v) j w at acts in
     (t.0, at_longer (set s.views seat (left v)) (right v ∷ []) j t.0 t.1, t.2, t.3)
 
--- a join leads to a later state
+-- the taking in of a note leads to a later state
 pub hears_on : JoinIsMonotone told_pass new_pass
 hears_on s r seat other v note here there apart none j w at acts =
     let f = r.fits seat v here in

@@ -281,7 +281,7 @@ module _ (v x w : View) (words : List ℕ) (point i seat n : ℕ) (so_far : Seco
             (ap (λ (d : ClientState). d.first) is);
       }
 
--- tries of a reading
+-- from v to x the pass is as it was, or has taken steps of a reading and is before the first load of its next try
 abbrev pub Tries : View → View → Type 0
 Tries v x = (x ≡ v) ⊎ StaysIn v (Collecting []) x
 
@@ -299,7 +299,7 @@ module _ (v x : View) (none : (client_of v.own).held ≡ NoCall) where
 pub tries_again : (v u w : View) (words : List ℕ) (point : ℕ) → StaysIn v (Checking words 0 point) u → StaysIn u (Collecting []) w → StaysIn v (Collecting []) w
 tries_again v u w words point a b = stays_on v u w (Checking words 0 point) (Collecting []) (checking words 0 point) a b
 
--- a step on the number of reporters, enlisting or not, leaves what a pass has finished and holds
+-- a step that looks how many reporters are enlisted finishes no report and no reading, and begins none
 pub counted_does : (seat n : ℕ) (v w : View) → Steps seat (Enlisted n) v w → DoneAsBefore v w
 counted_does seat n v w s =
     let is = client_is seat (Enlisted n) v w s

@@ -9,7 +9,7 @@ use Rattle.ucl_words.specs.WordRecords.{WordSplit, WordMet, IsWordPassOf}
 pub own_after : (board : TableId) (k m : WordPass) → k.board ≡ board → m.board ≡ k.board → Occurs m.seat m.pass → IsWordPassOf board m
 own_after board k m is own occurs = (own ∙ is, (m.seat, occurs))
 
--- a split and a meeting make passes of the board out of passes of it
+-- the two passes that a split makes of a pass of a board are passes of it, and occur
 pub split_own : (board : TableId) (k m n : WordPass) → IsWordPassOf board k → WordSplit k m n → IsWordPassOf board m × IsWordPassOf board n
 split_own board k m n is split =
     let both = both_occur words_after IsNextOfProtocol k.pass m.pass n.pass split.occurs is.1 in

@@ -115,7 +115,7 @@ module _ (x u w : View) (words : List ℕ) (collects : Collects x words u) (anot
     unclean = unclean_next tried.tries (collects.accesses ++ another.accesses) tried.unclean is_unclean;
   }
 
--- what a reading says of its pass, v before and w after it
+-- all that is promised of a call that gave this reading: the pass had the view v before it and has w after it
 pub record Reads (v : View) (reading : Reading) (w : View) : Type 0 where
   pub consistent : IsConsistent w
   pub always : Continues (pass_view_of v) (pass_view_of w)

@@ -22,7 +22,7 @@ accepts_by : (word next number reporter : ℕ) (call : EventCall) → refusal_of
     → record_at next ≡ after (record_at word) reporter call.kind → number ≡ (record_at next).number → reply_of (record_at word) call ≡ Ok (record { number = number })
 accepts_by word next number reporter call none is said = search (arith, accepted_reply, after_number)
 
--- what a report says of its pass, v before and w after it
+-- all that is promised of a report of this event with this reply: the pass had the view v before it and has w after it
 pub record Reported (v : View) (call : EventCall) (reply : Result Accepted Refusal) (w : View) : Type 0 where
   pub consistent : IsConsistent w
   pub always : Continues (pass_view_of v) (pass_view_of w)

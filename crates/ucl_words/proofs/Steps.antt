@@ -25,7 +25,7 @@ use Rattle.ucl_steps.proofs.LogFacts.{Offers, Sees as SeesPending}
 abbrev pub Position : Type 0
 Position = State Entry View
 
--- behind word 0, the number of reporters, the word of a match is at the place that is its number, and is set there
+-- behind word 0, the number of reporters, the word of a match is at the place that is its number
 get_match : (n : ℕ) (b : List ℕ) (game : ℕ) → 1 ≤ game → get_or (n ∷ b) game 0 ≡ get_or b (game - 1) 0
 get_match n b game low = search arith
 
@@ -220,7 +220,7 @@ swaps slots seat place game m e entry old new is_seat acts holds of s r _ here _
     (missed_none s r seat m here acts game old new e holds of miss) in
     (t.0, keeps, tt, t.1, t.2))
 
--- a split of a pass keeps the invariant, and so do the making of a note of it and the taking in of a note by another pass
+-- a split of a pass keeps the invariant
 pub seconds : (seat : ℕ) (v : View) → Splits TableInvariant seat v (left_pass v) (second_pass v)
 seconds seat v s r here = seconds_keep words_after IsNextOfProtocol s.words s.views r seat v here
 
@@ -335,11 +335,11 @@ trail_longer s h trail p was = follows_wider h 0 0 (length s) (length h) trail (
 pub takes_trail : (v w : View) (steps : List Taken) → Takes v steps w → trail_of w ≡ trail_of v ++ accesses_in steps
 takes_trail v w steps t = search (arith, append_assoc, accesses_append)
 
--- steps that add no entry
+-- the step that this access is, if it adds no entry
 abbrev plain : Access → Taken
 plain m = step_taken (Match m.kind m.game m.found) m.place m.at None
 
--- accesses of which none added an entry are such steps, one for each
+-- the steps of accesses that add no entry are one for each access
 all_plain : (ms : List Access) → steps_with None ms ≡ map plain ms
 all_plain [] = refl
 all_plain (m ∷ []) = refl

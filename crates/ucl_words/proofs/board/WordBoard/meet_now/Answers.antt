@@ -22,7 +22,7 @@ join_seat-requires c =
 pub count-requires-clause-acts : goal.count-requires-clause-acts
 count-requires-clause-acts c = subst (λ (u : View). IsSome u.share) (sym (ap (λ m. m.0) c.join_seat.ensures.2)) c.second.invariant.0.sound.acts
 
--- the passes before and after
+-- all that is promised of a meeting holds of the two passes before and after it
 met : (c : goal.After-count) → WordMet (pass_of c.first.inside.seat.table_id c.first.inside.seat.id c.first.inside.seat.me.0)
     (pass_of c.split_seat-note.new.seat.table_id c.split_seat-note.new.seat.id c.split_seat-note.new.seat.me.0)
     (pass_of c.second.inside.seat.table_id c.second.inside.seat.id c.second.inside.seat.me.0)

@@ -9,7 +9,7 @@ use Rattle.ucl_words.proofs.board.WordBoard.report_now.Goals as goal
 pub next_word-requires : goal.next_word-requires
 next_word-requires c = found_word _ _ _ _ _ _ c.look-loaded.ensures.looks
 
--- the rules refuse
+-- where the rules refuse the event, all that is promised of a report with this refusal holds
 refused : (c : goal.After-from_residual) → Reported c.pass.inside.seat.me.0 c.args.call.now (Err c.in_err-next.field-0.0) c.look-loaded.new.seat.me.0
 refused c =
     let said = c.look-loaded.ensures in
@@ -40,7 +40,7 @@ swap-found-requires-clause-next c =
     (search (arith, c.pass.ranges))
     c.pass.invariant.0 c.pass.invariant.3 said.looks next.accepted.0 c.in_ok-next.next held.0 held.1)
 
--- the exchange was won
+-- where the exchange was won, all that is promised of an accepted report holds
 won : (c : goal.After-pass-1) → Reported c.pass.inside.seat.me.0 c.args.call.now (Ok (record { number = c.number_of-number.result })) c.swap-found.new.seat.me.0
 won c =
     let said = c.look-loaded.ensures in
@@ -76,7 +76,7 @@ returns-then-found-loaded c =
     (c.swap-found.ensures.own ∙ c.look-loaded.ensures.own) (c.swap-found.ensures.seat ∙ c.look-loaded.ensures.seat) c.swap-found.ensures.swaps.occurs in
     search (arith, rules, all)
 
--- or missed
+-- where the exchange was missed, all that is promised of a report refused as stale holds
 missed : (c : goal.After-number_of) → Reported c.pass.inside.seat.me.0 c.args.call.now (Err (Stale c.number_of.result)) c.swap-found.new.seat.me.0
 missed c =
     let said = c.look-loaded.ensures in
