@@ -141,7 +141,7 @@ clubs-plain clubs is =
     let four = club-size clubs 4 (slot-plain clubs is 4 (omega arith, omega arith)) in
     ((one.0, (two.0, (three.0, (four.0, tt)))), omega (arith, one.1, two.1, three.1, four.1))
 
--- the texts that answers have are printed bytes, and take no more than so many bytes in quotes
+-- the letter of a group is a text, of 3 bytes in quotes
 pub group-text : (group : ℕ) → IsGroup group → IsText (group ∷ []) × (length (quoted (group ∷ [])) ≡ 3)
 group-text group h =
     let low = h.0 in let high = h.1 in

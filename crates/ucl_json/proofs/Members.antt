@@ -59,7 +59,7 @@ pub inner-ok : {A E : Type 0} (r : Result A E) (x : A) → IsOk r → IfOk r (λ
 inner-ok {A} (Ok a) x ok e = ap (λ (y : A). Some y) e
 inner-ok (Err f) x ok e = absurd (search rules)
 
--- clubs of which none is bad are read, and if one is, none are
+-- clubs of which none is bad are read as a roster
 pub roster_good : (roster clubs : List NamedClub) → roster ≡ clubs → bad_slot clubs ≡ None → Some roster ≡ unless_bad clubs (bad_slot clubs)
 roster_good roster clubs e h = rw (e, h) refl
 
@@ -73,7 +73,7 @@ pub just-four : (values : List Value) (w x y z : Value) → 4 ≤ length values 
 just-four (a ∷ b ∷ c ∷ d ∷ []) w x y z some few i j k l = cc
 just-four _ w x y z some few i j k l = absurd (omega arith)
 
--- words that are a board's are read as it, and if one is bad, none are
+-- words that are those of a board are read as that board
 pub words_read : (words board : List ℕ) → read_words 1 words ≡ Ok board → Some board ≡ if_read (read_words 1 words)
 words_read words board is = rw is refl
 
@@ -81,7 +81,7 @@ words_read words board is = rw is refl
 pub words_bad : (words : List ℕ) (index : ℕ) → read_words 1 words ≡ Err index → None ≡ if_read (read_words 1 words)
 words_bad words index is = rw is refl
 
--- a line of more than 4,096 bytes tells no board state; a shorter one in UTF-8 tells that of the value that is read of it
+-- a line of more than 4,096 bytes tells no board state
 pub too-long : (line : List ℕ) → 4096 < length line → None ≡ parse_board_line line
 unfolding parse_board_line
 too-long line h = rw (lt-leb (length line) 4096 h) refl

@@ -125,7 +125,7 @@ each : (values : List Data) → All (λ value. IsOneLine (json_line value)) valu
 each [] = All-nil (λ value. IsOneLine (json_line value))
 each (value ∷ values) = All-cons (λ v. IsOneLine (json_line v)) value values (one_line value) (each values)
 
--- no line, the line of one value, and two such texts one after the other are lines of values
+-- no bytes are a text of lines of values, of which there are none
 pub no_lines : AreLinesOfValues []
 no_lines = record { values = []; whole = refl; each = each [] }
 

@@ -68,7 +68,7 @@ items-flat value_of n each (x ∷ xs) =
 pub words-flat : (words : List ℕ) → AreFlat (word_items words) 0
 words-flat words = items-flat (λ (word : ℕ). string (hex_digits word)) 0 (λ word. (refl, omega arith)) words
 
--- no answer has a float, and each is nested no deeper than can be read back: those with words, a screen, a reply, matches, and all these
+-- the JSON answer that shows the words of a board has no float, and is nested no deeper than can be read back
 pub words_value_flat : (row : ℕ) (ws : List ℕ) → IsFlat (words_value row ws)
 words_value_flat row ws = let w = words-flat ws in record { whole = rw w.whole refl; shallow = omega (arith, w.shallow) }
 
@@ -116,7 +116,7 @@ pub matches_flat : (row : ℕ) (board : List ℕ) (roster : List NamedClub) → 
 unfolding matches_value
 matches_flat row board roster = let m = games-flat board match_numbers in record { whole = rw m.whole refl; shallow = omega (arith, m.shallow) }
 
--- and the screen with them
+-- the JSON value of a screen with its edition has no float, and is nested no deeper than can be read back
 pub edition_flat : (row : ℕ) (header : BoardHeader) (board : List ℕ) (roster : List NamedClub) → IsFlat (edition_screen_value row header board roster)
 unfolding edition_screen_value screen_value serde_json_on_literals
 edition_flat row header board roster =

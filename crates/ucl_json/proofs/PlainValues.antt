@@ -43,7 +43,7 @@ have_texts (member k d ms) = list_all is_printed k && have_texts ms
 abbrev pub AreInOrder : Members → Type 0
 AreInOrder ms = (put_all ms no_members ≡ ms) × (have_texts ms ≡ true)
 
--- its numbers fit, its texts are printed bytes, its objects have their members in order, and it nests so deep at most
+-- a value is plain: its numbers fit 64 bits, its texts are printed, its objects have members in order, and it nests `deep` at most
 abbrev mutual
   pub IsPlain : ℕ → Data → Type 0
   IsPlain deep (number n) = IsPlainNumber n
@@ -66,7 +66,7 @@ numeral (unsigned n) h = (number_of-decimal n h, IsNumber-decimal n h)
 numeral (negative (negsuc n)) h = (number_of-negative n (omega arith), IsNumber-signed_decimal (negsuc n) (omega arith))
 numeral _ h = absurd h
 
--- it is read back from its outline, whose numbers are numerals, and which nests no deeper
+-- a plain value is read back from its outline, whose numbers are numerals, and which nests no deeper
 mutual
   value-back : (deep : ℕ) (d : Data) → IsPlain deep d
       → (of_json (outline d) ≡ Some d) × tree.HasNumbers (outline d) × (tree.depth (outline d) ≤ deep)

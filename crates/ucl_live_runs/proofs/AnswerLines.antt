@@ -31,7 +31,7 @@ pub record CarriesAtMost (most : Option BoardState) (text : List ℕ) : Type 0 w
   pub begun : begun_line 4097 [] text ≡ []
   pub each : All (IsAtMost most) (carried_in text)
 
--- two texts of whole lines, one after the other: what they carry, that they are whole, and that they carry at most this
+-- a text of whole lines, and another one behind it, carry what the first carries, and then what the second carries
 pub carried-then : (a b : List ℕ) → begun_line 4097 [] a ≡ [] → carried_in (a ++ b) ≡ carried_in a ++ carried_in b
 carried-then a b h =
     ap (map parse_board_line) (ended_append 4097 [] a b ∙ ap (λ (l : List ℕ). ended_lines 4097 [] a ++ ended_lines 4097 l b) h)
@@ -141,7 +141,7 @@ unfolding escape_byte
 field-text Count = (refl, omega arith)
 field-text _ = (refl, omega arith)
 
--- no board state is carried by the answers to a bad row, to requests of words and matches, and to a refused event
+-- the JSON answer to a bad row carries no board state, if the row number fits 64 bits and what is shown of it is a short text
 pub bad-line : (o : Option BoardState) (row : ℕ) (field : BadField) (shown : List ℕ) → row < 2 ^ 64 → IsShown shown → CarriesAtMost o (json_line (bad_row_value row (field_name field) shown))
 unfolding parse_board_state serde_json_on_literals
 bad-line o row field shown r is =

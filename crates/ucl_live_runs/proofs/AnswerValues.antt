@@ -28,7 +28,7 @@ words-back (word ∷ words) h =
     let more = words-back words (All-tail (λ w. w < 2 ^ 64) word words h) in
     (rw (word-back word (All-head (λ w. w < 2 ^ 64) word words h), more.0) refl, ap suc more.1)
 
--- a board that was put into JSON is read back, as are, below, clubs, the letter of a group, the order and the edition
+-- a board, put into JSON, is read back as just that board
 board-back : (board : List ℕ) → AreWords board → All (λ word. word < 2 ^ 64) board
     → option_and_then (λ words. if_read (read_words 1 words)) (just 12 parse_word (listed (word_items board))) ≡ Some board
 board-back board w bits =
@@ -89,7 +89,7 @@ tells value m is has = rw (
   board-back m.board is.words is.bits,
 ) refl
 
--- the answers to a mend and to an accepted event, and a screen, have the members of the board state after them
+-- the JSON answer to a mend has the members of the board state that it was made from
 pub mended-has : (without : Option ℕ) (row left_out : ℕ) (m : BoardState) → Has (mended_with without (mended_value row left_out m.header m.board m.roster)) m
 unfolding mended_value serde_json_on_literals
 mended-has None row left_out m = record { group = refl; order = refl; edition = refl; clubs = refl; words = refl }

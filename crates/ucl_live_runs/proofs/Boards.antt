@@ -237,7 +237,7 @@ pub no-mend-on : (e : Session) (r : Said) (clubs : List NamedClub) (events : Lis
     → next e r ≡ moved e (stage e.header (open_at clubs (entered_by e.row events (request_of r))))
 no-mend-on e r clubs events h none = on-board e r clubs events h ∙ ap (moved e) (no-mend e.header e.row clubs events r (request_of r) none)
 
--- the history of the events that stand after a request or lines is that of the attempts in them, made one after the other
+-- the history of the events that stand after a request is that of before after the attempt in it, if any
 pub entered-by-history : (row : ℕ) (events : List StandingEvent) (q : Request) → history_in (entered_by row events q) ≡ fold after_attempt (history_in events) (attempts_of q)
 entered-by-history row events (Event event) = entered-history row events event
 entered-by-history _ _ _ = refl
@@ -274,7 +274,7 @@ unfolding reply_line
 reply-answer Text header row clubs history event = refl
 reply-answer Json header row clubs history event = refl
 
--- the answer to a request, and to a line, that mends nothing is that which the history gives
+-- the answer to an event is the one that the history of the events that stand gives
 event-answer : (options : LiveArgs) (header : BoardHeader) (row : ℕ) (clubs : List NamedClub) (events : List StandingEvent) (r : Said) (event : NightEvent) (shown : List ℕ)
     → answer_of options header row clubs events r (Event event) shown ≡ answer_by_history options header row clubs (history_in events) (Event event) shown
 event-answer options header row clubs events r event shown =
@@ -335,7 +335,7 @@ abbrev pub IsGood : Reached → Type 0
 IsGood (Ok (Open table)) = IsRoster table.roster × IsLegal (history_in table.events)
 IsGood _ = ⊤
 
--- what is reached with four clubs, and after each row that names a club or a group, is good
+-- what is reached with four clubs is good, whether they are a roster or one of them is bad
 good-roster : (clubs : List NamedClub) (slot : Option ℕ) → length clubs ≡ 4 → bad_slot clubs ≡ slot → IsGood (with_roster clubs slot)
 good-roster clubs None four e = (good_four clubs four e, may_none MayFollow)
 good-roster clubs (Some slot) four e = tt

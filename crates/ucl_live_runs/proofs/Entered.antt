@@ -11,7 +11,7 @@ entered-history row events event = elim (cases_Bool (is_ok (sequential_reply (hi
   | inr n ↦ rw n refl
 ]
 
--- the history of the events that stand after one is entered is legal, and its board is that after the attempt
+-- the history of the events that stand stays legal when an event is entered, if its reporter and match exist
 pub entered-legal : (row : ℕ) (events : List StandingEvent) (event : NightEvent) → IsLegal (history_in events) → IsAttempt (attempt_of event)
     → IsLegal (history_in (entered row events event))
 entered-legal row events event legal is =

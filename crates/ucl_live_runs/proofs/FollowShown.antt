@@ -153,7 +153,7 @@ versions f lines = record {
   has_header = has_header f lines;
 }
 
--- no board state is later than itself, nor than one that is later
+-- no board state is later than itself
 not-itself : (m : BoardState) → is_later m m ≡ false
 not-itself m = grind (arith, nat_tests)
 

@@ -3,7 +3,7 @@ use Rattle.ucl_live_runs.proofs.Common.{Fate, List, Refused, StandingEvent, [], 
 use Rattle.ucl_live_runs.proofs.Common.{length-append, ℕ, ◌∷◌, ◌≤◌}
 unfoldable use Rattle.ucl_live_runs.specs.Mended.{left_out_after}
 
--- of one event at most one is left out, and of events no more than there are
+-- of one event, whatever its fate, at most one is left out
 at-most-one : (event : StandingEvent) (fate : Fate) → length (left_by event fate) ≤ 1
 at-most-one event (Refused refusal) = omega arith
 at-most-one event _ = omega arith

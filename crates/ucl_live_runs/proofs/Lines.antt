@@ -25,7 +25,7 @@ abbrev pub is_open : Reached → Bool
 is_open (Ok (Open table)) = true
 is_open _ = false
 
--- an open board stays open, after a mend, a request and a line
+-- after a mend, accepted or refused, the board is open
 open-reply : (header : BoardHeader) (clubs : List NamedClub) (events : List StandingEvent) (r : Said) (mend : Mend) (reply : Result ℕ MendRefusal)
     → is_open (mended_stage header clubs events r mend reply).phase ≡ true
 open-reply header clubs events r mend (Ok edition) = refl
@@ -66,7 +66,7 @@ module _ (P : Session → List ℕ → Type 0) where
       at (Ok (Open table)) is = answered table.roster table.events is
       at s is = silent (moved e (next_at e s r))
 
--- a line on an open board
+-- a line on an open board leads to the session to which its request leads
 pub on-board : (e : Session) (r : Said) (clubs : List NamedClub) (events : List StandingEvent) → e.phase ≡ open_at clubs events
     → next e r ≡ moved e (request_stage e.header e.row clubs events r (request_of r))
 on-board e Nothing clubs events h = ap (λ (s : Reached). moved e (stage e.header s)) h
@@ -144,11 +144,11 @@ beginnings e bytes more =
 pub whole-text : (e : Session) (bytes : List ℕ) → live_text e bytes ≡ answers_to e bytes ++ answers (after_bytes e bytes) (last_lines (begun_line 258 [] bytes))
 whole-text e bytes = answers-append e (ended_lines 258 [] bytes) (last_lines (begun_line 258 [] bytes))
 
--- what is missing at its end is what is missing after those
+-- what is missing at the end of an input is what is missing after its whole lines and the last line, if it has begun
 pub whole-missing : (e : Session) (bytes : List ℕ) → missing_after e bytes ≡ missing_at (after_bytes e bytes) (begun_line 258 [] bytes)
 whole-missing e bytes = ap missing_now (after-append e (ended_lines 258 [] bytes) (last_lines (begun_line 258 [] bytes)))
 
--- a last line of no bytes has no answer, and changes nothing that is missing
+-- a last line of no bytes has no answer
 pub none-answers : (e : Session) (begun : List ℕ) → begun ≡ [] → answers e (last_lines begun) ≡ []
 unfolding answers
 none-answers e begun none = ap (λ (l : List ℕ). answers e (last_lines l)) none
@@ -176,13 +176,13 @@ told-alike a b (Ok (Open table)) e = refl
 told-alike a b (Err fault) e = refl
 told-alike _ _ _ e = ap (λ (n : ℕ). Some (Run (Input (BadRow n)))) e
 
--- the session after the line is this one
+-- what is missing after a last line with a byte is what is missing of the session that the line leads to, one row later
 pub some-missing : (e f : Session) (begun : List ℕ) → (begun ≡ [] → ⊥) → f ≡ next e (said_on e.row begun) → missing_at e begun ≡ missing (min (e.row + 1) (2 ^ 64 - 1)) f.phase
 some-missing e f begun some is =
     ap missing_now (some-end e begun some ∙ sym is) ∙ ap (λ (k : Session). missing k.row f.phase) is
     ∙ told-alike (e.row + 1) (min (e.row + 1) (2 ^ 64 - 1)) f.phase (omega arith)
 
--- if it has no answer as a line, it has none as a last line
+-- if a session has no answer to a line, for some fault, it has none to it as the last line, for the same fault
 pub some-stops : (e : Session) (begun : List ℕ) (fault : LiveFault) → (begun ≡ [] → ⊥) → HasNoAnswer e (said_on e.row begun) fault → HasNoEnd e begun fault
 some-stops e begun fault some (inl none) = inl none
 some-stops e begun fault some (inr refused) = inr (ap missing_now (some-end e begun some) ∙ ap (missing (e.row + 1)) refused)

@@ -18,7 +18,7 @@ mended-line without row left_out m is r w l =
     value-line (mended_with without (mended_value row left_out m.header m.board m.roster)) (Some m)
     (carried _ m is (mended-has without row left_out m) (mended-plain without row left_out m is r w l))
 
--- the line of an event that is left out, and that of a mend that is refused, carry no board state
+-- the JSON line of an event that is left out carries no board state, if its numbers fit 64 bits
 pub left-out-line : (o : Option BoardState) (row : ℕ) (entry : Entry) (refusal : Refusal) → row < 2 ^ 64 → entry.game < 2 ^ 64 → entry.reporter < 2 ^ 64
     → CarriesAtMost o (json_line (left_out_value row entry refusal))
 unfolding parse_board_state serde_json_on_literals

@@ -51,7 +51,7 @@ kept-history kept event (Err refusal) = refl
 abbrev IsRanged : StandingEvent → Type 0
 IsRanged event = IsReporter event.entry.reporter × IsMatch event.entry.game
 
--- what is kept of one event more is legal, and so of all
+-- if those kept so far are a legal history, so is what is kept after one event more, of a reporter and a match that there are
 step-legal : (row : ℕ) (kept : List StandingEvent) (event : StandingEvent) → IsLegal (history_in kept) → IsRanged event → IsLegal (history_in (kept_after row kept event))
 step-legal row kept event legal is = elim (cases_Bool (event.row == row)) [
   | inl y ↦ subst (λ (f : Fate). IsLegal (history_in (kept_by kept event f))) (sym (fate-named row kept event y)) legal

@@ -177,7 +177,7 @@ walks e out (line ∷ lines) json fits g told falls =
       falls = subst NeverFall (sym parts) more.falls;
     }
 
--- the lines of an input are no more than its bytes and one
+-- the last line of an input is at most one line
 last-few : (line : List ℕ) → length (last_lines line) ≤ 1
 last-few [] = omega arith
 last-few (b ∷ line) = omega arith

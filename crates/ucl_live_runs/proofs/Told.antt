@@ -80,7 +80,7 @@ by-parts (Some a) (Some b) (Some c) header h =
     (ap (λ (t : BoardHeader). Some t.group) same, ap (λ (t : BoardHeader). Some t.edition) same)
 by-parts a b c header h = cc
 
--- a header that a row names is such a header, and so is the one that is asked for, and the one after a row
+-- a header that a row names has a group that there is and an edition of 16 bits
 said-header : (f : FourFields) (header : BoardHeader) → header_by f ≡ Some header → IsHeader header
 said-header f header h =
     let p = by-parts (letter_in f.second) (profile_named f.third) (edition_by f.fourth) header h in
@@ -115,7 +115,7 @@ pub record IsSmall (event : StandingEvent) : Type 0 where
 small-row : (row : ℕ) → row_number row < 2 ^ 64
 small-row row = cond_both (nat_le row 4294967295) row 0 (λ n. n < 2 ^ 64) (λ y. grind (arith, nat_tests)) (λ _. omega arith)
 
--- the numbers of each event that is entered, or kept by a mend, fit 64 bits
+-- if the numbers of all events that stand fit 64 bits, they do so after an event that there can be is entered
 small-entered : (row : ℕ) (events : List StandingEvent) (event : NightEvent) → IsPossible (Event event) → All IsSmall events → All IsSmall (entered row events event)
 small-entered row events event p all =
     let one : IsSmall (standing_of row event) = record { row = small-row row; game = omega (arith, p.0.1); reporter = omega (arith, p.0.0) } in
@@ -178,7 +178,7 @@ pub record AreSound (header : BoardHeader) (reached : Reached) : Type 0 where
 abbrev pub IsSound : Session → Type 0
 IsSound e = AreSound e.header e.phase
 
--- a session stays sound after a mend, a request and the rows that name a group and clubs
+-- an open board that is sound stays sound after a mend whose numbers there can be
 sound-mend : (header : BoardHeader) (clubs : List NamedClub) (events : List StandingEvent) (r : Said) (mend : Mend) (reply : Result ℕ MendRefusal) → AreSound header (open_at clubs events)
     → IsPossible (Mends mend) → edition_reply header.edition events mend ≡ reply → AreSound (mended_stage header clubs events r mend reply).header (mended_stage header clubs events r mend reply).phase
 sound-mend header clubs events r mend (Ok edition) g p is = record {

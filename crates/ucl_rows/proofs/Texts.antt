@@ -5,7 +5,7 @@ use Rattle.std.proofs.lemmas.List.{append-nil}
 use Rattle.ucl_screen.proofs.EventsInTurn.{past}
 use Rattle.ucl_rows.specs.Lines.{word_lines}
 
--- one word more is written, of those that are still to be written, and at the end none is left
+-- once one word more is written, what was written and what is still to be written are the whole text of word lines
 pub words_step : (index i : ℕ) (words out new whole : List ℕ) → i < length words → out ++ word_lines index (drop i words) ≡ whole
     → new ≡ out ++ word_line index (get_or words i 0) → new ++ word_lines (index + 1) (drop (i + 1) words) ≡ whole
 unfolding word_lines

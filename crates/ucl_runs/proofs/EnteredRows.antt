@@ -38,7 +38,7 @@ module _ (s h : List Entry) (on : IsPrefix s h) where
   entered_before {a} {p} (inl r) is = absurd (false≢true (sym (reply_on a.call p r.within ∙ r.reply) ∙ is.reply))
   entered_before (inr e) is = e
 
--- an attempt is entered where an entry stands, and has its point there or at the end
+-- an attempt is entered at a place that the history has
 pub entered_within : {h : List Entry} {a : Attempt} {p : ℕ} → IsEnteredAt h a p → p < length h
 entered_within {h} {p = p} is = at_below h p _ is.entry
 

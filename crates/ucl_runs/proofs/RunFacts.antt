@@ -20,7 +20,7 @@ use Rattle.ucl_screen.specs.declared.fault.InputFault.TheVariants as input
 use Rattle.ucl_live_board.specs.declared.live_board.LiveBoard as boards
 use Rattle.ucl_io.specs.declared.stream.Sink as writes
 
--- the text of `feed` is that of the script that was read, and the text of `show` the screen of the sheet
+-- if the input, as far as it is known, means this script, the text of its events is what `feed` writes for the input
 pub fed : (known : Option (List ℕ)) (night : Script) (text : List ℕ) → IfSome known (λ bytes. MeansNight bytes (Ok night)) → text ≡ feed_text night.events → IfSome known (λ bytes. IsFed bytes text)
 fed None night text means is = tt
 fed (Some bytes) night text means is = record { night = night; means = means; text_is = is }
@@ -153,7 +153,7 @@ one_or_two zero low high = absurd (omega arith)
 one_or_two (suc zero) low high = inl (omega arith)
 one_or_two (suc (suc n)) low high = inr (omega arith)
 
--- the first rows are of reporters 1 and 2, one more too, and so all
+-- if the first i rows are of reporters 1 and 2, and the next one is, so are the first i + 1
 pub duty_more : (i : ℕ) (rows : List NightEvent) (row : NightEvent) → i < length rows → row ≡ get_or rows i row → 1 ≤ row.reporter → row.reporter ≤ 2
     → All IsOnDuty (take i rows) → All IsOnDuty (take (i + 1) rows)
 duty_more i rows row below is low high so_far = All-more IsOnDuty rows i row below so_far (subst IsOnDuty is (one_or_two row.reporter low high))
@@ -162,7 +162,7 @@ duty_more i rows row below is low high so_far = All-more IsOnDuty rows i row bel
 pub duty_all : (i : ℕ) (rows : List NightEvent) → length rows ≤ i → All IsOnDuty (take i rows) → All IsOnDuty rows
 duty_all i rows past all = subst (All IsOnDuty) (take_all i rows past) all
 
--- the first row of another reporter
+-- a row of a reporter above 2, after i rows of reporters 1 and 2, is the first one off duty, in row 5 + i
 pub first_off_duty : (i : ℕ) (rows : List NightEvent) (event : NightEvent) → i < length rows → event ≡ get_or rows i event → All IsOnDuty (take i rows)
     → 2 < event.reporter → IsFirstOffDuty rows (5 + i)
 first_off_duty i rows event below is so_far high = record {

@@ -15,12 +15,12 @@ pub follows_ends : (h : List Entry) (low high : ℕ) (ms : List Access) → Foll
 follows_ends h low high [] f = f
 follows_ends h low high (m ∷ ms) f = let a = f.0 in let b = follows_ends h m.at high ms f.2 in omega arith
 
--- the history may be longer
+-- accesses that follow a history up to a length that it has follow each longer history
 pub follows_longer : (h h' : List Entry) (low high : ℕ) (ms : List Access) → IsPrefix h h' → high ≤ length h → Follows h low ms high → Follows h' low ms high
 follows_longer h h' low high [] p le f = f
 follows_longer h h' low high (m ∷ ms) p le f = search (arith, follows_ends, take_beginning, follows_longer h h' m.at high ms p le f.2)
 
--- the bounds may be wider
+-- accesses that follow a history between two lengths of it follow it between a lower and a higher one
 pub follows_wider : (h : List Entry) (low low' high high' : ℕ) (ms : List Access) → low' ≤ low → high ≤ high' → Follows h low ms high → Follows h low' ms high'
 follows_wider h low low' high high' [] l u f = let a : low ≤ high = f in omega arith
 follows_wider h low low' high high' (m ∷ ms) l u f = let a = f.0 in (omega arith, f.1, follows_wider h m.at m.at high high' ms (le_refl m.at) u f.2)
@@ -30,11 +30,11 @@ pub follows_append : (h : List Entry) (low middle high : ℕ) (ms ns : List Acce
 follows_append h low middle high [] ns f g = follows_wider h middle low high high ns f (le_refl high) g
 follows_append h low middle high (m ∷ ms) ns f g = (f.0, f.1, follows_append h m.at middle high ms ns f.2 g)
 
--- one step, at the whole history
+-- one access at the whole history, which found the word of its match there, follows the history up to its end
 pub follows_one : (h : List Entry) (low : ℕ) (m : Access) → low ≤ length h → m.at ≡ length h → m.found ≡ word_of (match_after h m.game) → Follows h low (m ∷ []) (length h)
 follows_one h low m le at is = (omega arith, is ∙ ap (λ (z : List Entry). word_of (match_after z m.game)) (sym (take-length h) ∙ ap (λ (z : ℕ). take z h) (sym at)), omega arith)
 
--- each access, by its place
+-- each access of those that follow a history lies between their two lengths of it, and found the word that was there
 pub follows_at : (h : List Entry) (low high : ℕ) (ms : List Access) (k : ℕ) (m : Access) → Follows h low ms high → slice_get ms k ≡ Some m → (low ≤ m.at) × (m.at ≤ high) × IsFoundIn h m
 follows_at h low high (n ∷ ms) (suc k) m f e = let t = follows_at h n.at high ms k m f.2 e in let a = f.0 in let b = t.0 in (omega arith, t.1, t.2)
 follows_at h low high ms k m f e = search (arith, none-some, same_Some, follows_ends)
@@ -51,7 +51,7 @@ pub follows_parts : (h : List Entry) (low high : ℕ) (ms ns : List Access) → 
 follows_parts h low high (m ∷ n ∷ ms) ns f = search (arith, follows_parts h m.at high (n ∷ ms) ns f.2)
 follows_parts h low high ms ns f = search (arith, le_refl, none-some, same_Some)
 
--- no access is a collect, and one more that finds the next word
+-- no accesses are the beginning of each collect
 pub collect_none : (kind : AccessKind) (words : List ℕ) → IsCollect kind words []
 collect_none kind words k m e = absurd (none-some m e)
 

@@ -302,7 +302,7 @@ module _ (xs : List CallRecord) (k : ℕ) (f : CallRecord → CallRecord) where
           (t.0, else_made t.0 m (not_made t.0 m t.1) t.1, λ j made. search (arith, cases_eq j k, t.2 j, made_else j m, and_some, change_at_here, same_Some))
     ]
 
--- a call that begins
+-- if each entry has just one call, it has so with one call more that has no reply
 pub once_begun : (h : List Entry) (xs : List CallRecord) (new : CallRecord) → new.reply ≡ None → EntryHasOneCall h xs → EntryHasOneCall h (xs ++ new ∷ [])
 once_begun h xs new none = once_same h xs (xs ++ new ∷ [])
     (λ i m made. let t = and_some (slice_get xs i) (IsMaker m) made in some_and (slice_get (xs ++ new ∷ []) i) (IsMaker m) t.0 (at_longer xs (new ∷ []) i t.0 t.1) t.2)

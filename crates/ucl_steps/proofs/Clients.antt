@@ -15,7 +15,7 @@ use Rattle.ucl_steps.specs.ClientState.{ClientState, FollowsProtocol, IsNextFor,
 use Rattle.ucl_steps.specs.ClientState.{call_answered, client_at, client_of, entry_by, first_place, new_client, outcome, point_of}
 use Rattle.ucl_steps.specs.LogHistory.{IsCall, entries_before}
 
--- a step of its own is added to what a pass has done; a step of another seat leaves it
+-- a step of a pass is added to what the pass has done
 pub client_own : (log : Log) (x : Logged) → client_at x.seat (log ++ x ∷ []) ≡ with_step (client_at x.seat log) x.step
 client_own log x = ap client_of (taken_own x.seat log x.step) ∙ fold-append with_step new_client (taken_by x.seat log) (x.step ∷ [])
 
@@ -31,7 +31,7 @@ by_seat log x P d is own other seat = elim (cases_eq x.seat seat) [
   | inr not ↦ subst (P seat) (sym (client_other log x seat not)) (other seat not)
 ]
 
--- the entries before a place of a log are no more than its history, the same in a longer log, and rise with the place
+-- the entries before a place of a log are no more than its history has
 pub entries_low : (log : Log) (place : ℕ) → entries_before log place ≤ length (history_of log)
 entries_low log place =
     let e = ap (λ (l : Log). length (history_of l)) (sym (take-append-drop place log))
@@ -55,7 +55,7 @@ entries_rise log p q le =
 pub entries_all : (log : Log) → entries_before log (length log) ≡ length (history_of log)
 entries_all log = ap (λ (l : Log). length (history_of l)) (take-length log)
 
--- no step adds an entry but an exchange of a match word, whatever its pass holds
+-- a Look adds no entry
 pub look_none : (h : Pending) (number game found : ℕ) (e : EventCall) → entry_by number h (Match (Look e) game found) ≡ None
 look_none h number game found e = search arith
 
@@ -75,7 +75,7 @@ count_none h number found = search arith
 pub enlist_none : (h : Pending) (number found : ℕ) → entry_by number h (Enlists found) ≡ None
 enlist_none h number found = search arith
 
--- the number of a pass is the one that its steps gave it
+-- an outcome leaves the number of a pass
 outcome_number : (o : Outcome) (y : Taken) (d : ClientState) → (with_outcome o y d).number ≡ d.number
 outcome_number o y d = search arith
 
@@ -89,7 +89,7 @@ number_from : (d : ClientState) (n : ℕ) → d.number ≡ n → (steps : List T
 number_from d n is [] = is
 number_from d n is (x ∷ steps) = number_from (with_step d x) (number_by x.target n) (number_after x.target x d ∙ ap (number_by x.target) is) steps
 
--- the number of a pass is that of all its steps, at most how many are enlisted, and no two seats have one but 0
+-- the number of a pass is the one that all its steps gave it
 pub client_number : (steps : List Taken) → (client_of steps).number ≡ number_of steps
 client_number steps = number_from new_client 0 refl steps
 
@@ -105,7 +105,7 @@ numbers_apart log facts i j pos same = let n = client_number (taken_by i log) in
 pub may_enlist : (d : ClientState) (number : ℕ) (t : Target) (entry : Option Entry) → d.number ≡ number → IsNextFor d t → entry ≡ entry_by d.number d.held t → MayEnlist number t entry
 may_enlist d number t entry same next is = search (arith, enlist_none)
 
--- a pass that holds an event, or words, is in a call
+-- a pass that holds an event is in a call
 pub holding : (e : EventCall) (old new : ℕ) → Holding e old new ≢ NoCall
 holding e old new is = cc
 
@@ -164,7 +164,7 @@ first_after h first place last now was = search (arith, holding, collecting, che
 first_low : (h : Pending) (first place : ℕ) → (h ≢ NoCall → first < place) → first_place h first place ≤ place
 first_low h first place was = search (arith, le_refl, holding, collecting, checking)
 
--- the entries before it are as many as there were when the call began
+-- the entries before the first step of a call are as many as there were when the call began
 begun_by : (log : Log) (h : Pending) (begun first place now : ℕ) → now ≡ length (history_of log) → place ≡ length log
     → (h ≢ NoCall → begun ≡ entries_before log first) → first_place h begun now ≡ entries_before log (first_place h first place)
 begun_by log h begun first place now is here was = search (arith, holding, collecting, checking, entries_all)

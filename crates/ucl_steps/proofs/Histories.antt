@@ -65,7 +65,7 @@ get_set_else xs k i y not = search arith
 pub same_caller : (c d : Caller) → (c ≡ d) ⊎ (c ≢ d)
 same_caller c d = search (arith, cases_eq)
 
--- a caller that was set to hold y holds y, and others hold what they held
+-- a caller that was set to hold y holds y
 pub held_here : (cs : Callers) (c : Caller) (x y : CallerState) → held_by cs c ≡ Some x → held_by (set_held y c cs) c ≡ Some y
 held_here cs c x y e = search (arith, none-some, get_set_here)
 
@@ -85,11 +85,11 @@ legal_snoc h e legal may = may_next MayFollow h e legal may
 pub number_is : (h : List Entry) (g : ℕ) → (match_after h g).number ≡ length (entries_of g h)
 number_is h g = number_of_count (entries_of g h)
 
--- after an entry its match is as the rules say, and the others are as before
+-- after an entry that may come next in a legal history its match is as the rules say
 pub match_next : (h : List Entry) (e : Entry) → IsLegal h → MayFollow h e → match_after (h ++ e ∷ []) e.game ≡ after (match_after h e.game) e.reporter e.kind
 match_next h e legal may = search (arith, entries_same, record_next, legal_balanced, legal_match, legal_case, accepts)
 
--- a word is of one record
+-- the word of a match after a legal history holds the record of the match
 pub read_back : (h : List Entry) (g : ℕ) → IsLegal h → record_at (word_of (match_after h g)) ≡ match_after h g
 read_back h g legal = record_back (match_after h g) (match_valid g h legal)
 
@@ -106,7 +106,7 @@ pub squeezed : (g x : ℕ) (h : List Entry) (a p b : ℕ) → IsLegal h → a �
     → x ≡ word_of (match_after (take p h) g)
 squeezed g x h a p b legal low high is_a is_b = search (arith, same_word, numbers_rise, number_is, same_number)
 
--- the words of the board of a history are those of its matches, and an entry changes the word of its match alone
+-- the words of the board of a history are those of its matches
 pub board_get : (h : List Entry) (k : ℕ) → k < 12 → get_or (board_of h) k 0 ≡ word_of (match_after h (k + 1))
 board_get h k l = let e : k ≡ k + 1 - 1 = omega arith in ap (λ (z : ℕ). get_or (board_of h) z 0) e ∙ word_after h (k + 1) (omega arith, omega arith)
 

@@ -13,7 +13,7 @@ use Rattle.ucl_steps.specs.declared.machine.Held.TheVariants as has
 use Rattle.ucl_steps.proofs.Runs.{Keeps, word_now, kept_at_start, run_kept}
 use Rattle.ucl_steps.proofs.Calls.{in_call}
 
--- a state that steps lead to has what a run keeps: so its history is short enough, and each word that of a valid record
+-- a state that steps lead to has what a run keeps
 pub reached_kept : (w : MachineState) (r : IsReachable w) → Keeps r.1 w
 reached_kept w r = run_kept r.1 [] (initial_state r.0) w (kept_at_start r.0) r.2
 
@@ -44,7 +44,7 @@ held_reporter cs r l = search arith
 pub held_reader : (cs : Callers) (r : ℕ) → 1 ≤ r → held_by cs (Reader r) ≡ slice_get cs.readers (r - 1)
 held_reader cs r l = search arith
 
--- what a caller of the program holds stands for what the machine's caller holds; past all callers there is none
+-- what a caller of the program holds stands for what the machine's caller at its place holds
 pub held_at : (hs : List Held) (k : ℕ) (x d : Held) → k < length hs → x ≡ get_or hs k d → Some (holds_of x) ≡ slice_get (map holds_of hs) k
 held_at hs k x d l e = sym (slice_get-map holds_of hs k ∙ (ap (option_map holds_of) (slice_get-get_or hs k d l) ∙ ap (λ (z : Held). Some (holds_of z)) (sym e)))
 

@@ -378,7 +378,7 @@ module _ (steps : List Step) (w : MachineState) (kept : Keeps steps w) where
   step_kept (End c) (Some (Answered k)) w' holds done = search (arith, ended steps w kept c (Answered k) holds k refl (kept.knows c (Answered k) k holds refl).sees, same_Some)
   step_kept s o w' holds done = absurd (none-some w' done)
 
--- at first each caller is idle, and what a run keeps is there
+-- each of some idle callers is idle
 idle_all : (n k : ℕ) (x : CallerState) → slice_get (replicate n Idle) k ≡ Some x → x ≡ Idle
 idle_all (suc n) (suc k) x e = idle_all n k x e
 idle_all n k x e = search (arith, none-some, same_Some)

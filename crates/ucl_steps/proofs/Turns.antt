@@ -34,7 +34,7 @@ place_of (s ∷ steps) i c call e = let t = place_of steps i c call e in (suc t.
 begun_more : (steps : List Step) (p q : ℕ) → p ≤ q → length (begun_in (take p steps)) ≤ length (begun_in (take q steps))
 begun_more steps p q l = search (arith, take_split steps p q l, begun_in-append, length-append)
 
--- an earlier call is begun at an earlier place, and the other way round
+-- an earlier call is begun at an earlier place
 pub earlier_place : (steps : List Step) (p q i j : ℕ) (c d : Caller) → BeginsAt steps p i c → BeginsAt steps q j d → i < j → p < q
 earlier_place steps p q i j c d a b l = elim (cases_lt p q) [ inl before ↦ before | inr after ↦ let more = begun_more steps q p after in let x = a.number in let y = b.number in absurd (omega arith) ]
 
