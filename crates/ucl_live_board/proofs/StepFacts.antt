@@ -28,7 +28,7 @@ pub record Goes (v w : View) : Type 0 where
   pub acts : IsSome w.share
   pub alone : w.share ≡ whole → (history_of w.log ≡ added_by w.own) × (enlisted_by w.log ≤ number_of w.own) × (number_of w.own ≤ 1)
 
--- after any step a pass is sound as contracts see it
+-- after any step a pass has seen a legal history, knows its own entries there and has a share, as contracts see it
 pub sound : (shown : List Taken → List ℕ) (v w : View) → Goes v w → IsSound (pass_view_by shown w)
 sound shown v w goes = search arith
 

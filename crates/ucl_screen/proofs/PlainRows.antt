@@ -243,7 +243,7 @@ pub none_ahead : (text bare : List ℕ) → ((tail : List ℕ) → AtLineEnd tai
     → ((tail : List ℕ) → records default_config (bare ++ tail) ≡ records default_config tail) → rows_of text ≡ []
 none_ahead text bare mark none = ap (records default_config) (rw (append-nil text) at (mark [] refl)) ∙ none [] ∙ no-rows
 
--- where a text without its mark begins with a row, its rows are this one and those of the rest
+-- where a text without its mark begins with a row, its rows are this one and those of the rest, from the end of the row's line on
 pub row_ahead : (text bare rest : List ℕ) (row : Fields) → ((tail : List ℕ) → AtLineEnd tail → strip_bom (text ++ tail) ≡ bare ++ tail) → BeginsWithRow bare row rest
     → rows_of text ≡ row ∷ rows_of rest
 row_ahead text bare rest row mark b =

@@ -18,7 +18,7 @@ IsSequential history k (Reporter r) (Event e) (Refused refusal) = sequential_rep
 IsSequential history k c Reading (Copied reading) = (reading.board ≡ board_of (take k history)) × (reading.version ≡ k)
 IsSequential history k c call reply = ⊥
 
--- the point of an accepted call is that of its entry, before the end
+-- k, a length of the history, can be the point of a call: not before its beginning, and before its end; if it is not accepted, also at its end
 abbrev pub LiesWithin : CallRecord → ℕ → Reply → ℕ → Type 0
 LiesWithin c k (Accepted a) len = (c.begun ≤ k) × (k < len) × IfSome c.ended (λ ended. k < ended)
 LiesWithin c k reply len = (c.begun ≤ k) × (k ≤ len) × IfSome c.ended (λ ended. k ≤ ended)

@@ -100,7 +100,7 @@ pub record Turns (steps : List Step) (n : ℕ) (ts : List Time) : Type 0 where
   pub closed : (i : ℕ) (a : Time) → slice_get ts i ≡ Some a → IsSome a.ended → (p : ℕ) × EndsAt steps p i a.caller
   pub real : (p q i j : ℕ) (c d : Caller) (a b : Time) → EndsAt steps p i c → BeginsAt steps q j d → p < q → slice_get ts i ≡ Some a → slice_get ts j ≡ Some b → EndedBy a.ended b.begun
 
--- no steps and no calls are in order
+-- no steps and no calls are in the order of time, with a history of no entry
 pub turns_none : Turns [] 0 []
 turns_none = search (arith, none-some)
 

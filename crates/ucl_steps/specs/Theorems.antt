@@ -27,7 +27,7 @@ WordsAreOfTheHistory = (cast : Cast) (steps : List Step) (state : MachineState) 
 abbrev pub UncleanTriesSeeMore : Type 0
 UncleanTriesSeeMore = (history : List Entry) (low high : ℕ) (ms : List Access) → Follows history low ms high → (try : IsUnclean ms) (first : Access) → slice_get try.firsts (length try.broken.equal) ≡ Some first → first.at < try.broken.last.at
 
--- if the accesses of unclean tries follow a history, there are no more tries than entries that came from `low` to `high`
+-- if accesses are made while a history grows from `low` to `high` entries, no more tries of readings find a word changed than entries came
 abbrev pub UncleanTriesAreFew : Type 0
 UncleanTriesAreFew = (history : List Entry) (low high : ℕ) (tries : List (List Access)) → Follows history low (accesses_of tries) high → AllByRecursion IsUnclean tries → low + length tries ≤ high
 
