@@ -32,7 +32,7 @@ unlooked : (style : Style) (history : List Entry) (readings : ℕ) (last : Optio
 unlooked style history readings None looks none = refl
 unlooked style history readings (Some text) looks none = let one = looks.0 in absurd (omega arith)
 
--- a night that ended well, whose reporter 2 was then told what other passes had seen, and has now seen `met`
+-- a night on the board `lent` that ended well, whose reporter 2 was then told what other passes had seen, and has now seen `met`
 module _ {B R P : Type 0} (live : boards.Ghosts B R P) (lent : B) (pass : R) (rows : List NightEvent) (style : Style) (asked : ℕ) (end : NightEnd R P)
     (ends : IsNightEnd live lent pass rows style asked end) (duty : All IsOnDuty rows) (met : List Entry) (on : IsPrefix (live.reporter end.reporter_2).seen met) where
   abbrev settled : List Entry

@@ -103,7 +103,7 @@ abbrev pub ScheduleDoesNotMatter : Type 0
 ScheduleDoesNotMatter = (number : ℕ → ℕ) (rows : List NightEvent) (history : List Entry) → IsInterleaving number rows history → EachMatchHasOneReporter rows →
     board_of history ≡ night_board number rows
 
--- the passes of two reporters, `one` and `two`, and two readers have the share of the pass that a night was given, halved three times
+-- two reporters' passes, `one` and `two`, and two readers' have the share of `lent`, the pass that a night was given, halved three times
 pub record HaveShares (lent one two left right : PassView) : Type 0 where
   pub reporter_2 : two.share ≡ second_half lent.share
   pub reader_1 : left.share ≡ second_half (first_half lent.share)

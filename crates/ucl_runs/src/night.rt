@@ -63,7 +63,8 @@ fn check_duty(rows: &[NightEvent]) -> Result<(), RunFault>
 }
 
 /// Runs a night on a live board: two reporters enter the rows of the script in threads of their own, each its rows in script order, while
-/// two readers take `readings` readings each and render the screen of each; then the reporters settle.
+/// two readers take `readings` readings each and render the screen of each; then the reporters settle. Returns the readers' last screens,
+/// the reading that was settled on, its screen, and the passes.
 ///
 /// `pass` is a reader's pass of the board: two reporters' and two readers' passes are made of it before any thread starts. `group` is the
 /// letter of a group, and `profile` the tie-break rules of all screens. The gate is called before each call and after each screen. Replies

@@ -60,7 +60,7 @@ fn has_come_to(number: &AtomicU32, wanted: u32) -> bool {
     false
 }
 
-/// The same of two numbers.
+/// Waits in the same way until both of two numbers have come to the one that is wanted; false if one has not in time.
 fn have_come_to([first, second]: &[AtomicU32; 2], wanted: u32) -> bool {
     has_come_to(first, wanted) && has_come_to(second, wanted)
 }
@@ -112,7 +112,7 @@ impl Watch {
         )
     }
 
-    /// Whether a call is let through in time.
+    /// Holds a call back until the workers that the rule names have come to their first calls; false if they have not in time.
     fn is_in_time(&self, is_reader: bool, call: u32) -> bool {
         match self.rule {
             Rule::FourAtOnce if call == 0 => {
