@@ -1,5 +1,6 @@
 -- The words and lemmas from elsewhere that the proofs of this crate share.
-pub use Rattle.json.specs.Print.{escape_byte, quoted}
+pub use Rattle.json.specs.Print.{quoted}
+unfoldable pub use Rattle.json.specs.Print.{escape_byte}
 pub use Rattle.serde_json.specs.Data.{Data}
 pub use Rattle.serde_json.specs.Written.{compact_text}
 pub use Rattle.std.proofs.Common.{Bool, List, None, Option, Some, [], ap, append-nil, append_assoc, ap₂, arith, codes, false, get_or, inl}
@@ -33,9 +34,10 @@ pub use Rattle.ucl_io.proofs.Cuts.{begun_append, begun_ended, begun_none, cut_at
 pub use Rattle.ucl_io.specs.Lines.{HasNoFeed, longer}
 pub use Rattle.ucl_json.proofs.Members.{too-long}
 pub use Rattle.ucl_json.proofs.OneLine.{line_of_value, lines_then, no_lines, one_line}
-pub use Rattle.ucl_json.specs.BoardLines.{parse_board_line}
+unfoldable pub use Rattle.ucl_json.specs.BoardLines.{parse_board_line}
 pub use Rattle.ucl_json.specs.Lines.{AreLinesOfValues, json_line}
-pub use Rattle.ucl_json.specs.Mended.{left_out_value, mend_refused_value, mended_value, mended_with}
+pub use Rattle.ucl_json.specs.Mended.{left_out_value, mend_refused_value, mended_with}
+unfoldable pub use Rattle.ucl_json.specs.Mended.{mended_value}
 pub use Rattle.ucl_json.specs.Values.{bad_row_value, refused_by, refused_value, reply_value, words_value}
 pub use Rattle.ucl_json.specs.declared.board_state.BoardState.{BoardState}
 pub use Rattle.ucl_json.specs.declared.header.BoardHeader.{BoardHeader}

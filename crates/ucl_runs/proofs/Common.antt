@@ -15,7 +15,8 @@ pub use Rattle.std.specs.Result.{is_ok}
 pub use Rattle.ucl_board.proofs.HistoryTheorems.{at_beginning, at_within, begins_length, begins_take, begins_through, board_words}
 pub use Rattle.ucl_board.proofs.HistoryTheorems.{entries_else, entries_same, legal_take, take_beginning}
 pub use Rattle.ucl_board.specs.Fixtures.{match_numbers}
-pub use Rattle.ucl_board.specs.History.{Attempt, IsLegal, accepted_of, after_attempt, attempted, board_of, entries_of, entry_of}
+pub use Rattle.ucl_board.specs.History.{Attempt, IsLegal, accepted_of, after_attempt, attempted, entries_of, entry_of}
+unfoldable pub use Rattle.ucl_board.specs.History.{board_of}
 pub use Rattle.ucl_board.specs.History.{followed_by, sequential_reply, snapshot_at}
 pub use Rattle.ucl_board.specs.declared.entry.Entry.{Entry}
 pub use Rattle.ucl_board.specs.declared.reading.Reading.{Reading}
