@@ -70,6 +70,8 @@ pub fn four_fields(row: &ByteRecord) -> Option<Four<'_>>
 }
 
 /// Reads the next row by `csv` into `record`: `None` if there is none, else its four fields, or `None` if it has more or fewer.
+#[cold]
+#[inline(never)]
 fn next_by_csv<'r>(
     rows: &mut Reader<&[u8]>,
     record: &'r mut ByteRecord,
@@ -95,6 +97,26 @@ pub(crate) enum Rows<'a> {
 }
 
 impl<'a> Rows<'a> {
+    /// Reads the first row of a text as `next` does, by `csv`, which reads the rows from now on. A reader takes many bytes of the stack.
+    #[cold]
+    #[inline(never)]
+    fn first_by_csv<'r>(
+        &mut self,
+        alloc: Global,
+        text: &'a [u8],
+        record: &'r mut ByteRecord,
+    ) -> Result<Option<Option<Four<'r>>>, AllocError>
+    where
+        'a: 'r,
+        ensures open { IfOk result (λ row. IsSome row → IsOpen self.new) }
+        ensures reads { IfOk result (λ row. ReadsNext row (rows_of text.now) (rows_ahead self.new)) }
+    {
+        let mut reader = open_rows(alloc, text);
+        let row = next_by_csv(&mut reader, record)?;
+        *self = Rows::Csv(reader);
+        Ok(row)
+    }
+
     /// Reads the next row, which `csv` reads into `record`: `None` if there is none, else its four fields, or `None` if it has more or fewer.
     /// It fails only if an allocation is refused.
     pub fn next<'r>(
@@ -116,10 +138,8 @@ impl<'a> Rows<'a> {
                     Ok(Some(Some(four)))
                 }
                 FirstRow::Other | FirstRow::Unread => {
-                    let mut reader = open_rows(alloc, *text);
-                    let row = next_by_csv(&mut reader, record)?;
-                    *self = Rows::Csv(reader);
-                    Ok(row)
+                    let text = *text;
+                    self.first_by_csv(alloc, text, record)
                 }
             },
             Rows::Csv(reader) => next_by_csv(reader, record),
