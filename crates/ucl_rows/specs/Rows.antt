@@ -4,8 +4,8 @@
 use Rattle.std.specs.Prelude.{ℕ, ◌-◌, ◌==◌, nat_le, if◌then◌else◌, Bool, List, [], ◌∷◌, ◌++◌, length, get_or, Option, Some, None}
 use Rattle.csv.specs.Reading.{default_config, records}
 use Rattle.ucl_screen.specs.Rows.{Fields, FourFields, four_of, four_seen, rows_of}
-use Rattle.ucl_rows.specs.declared.line.RowFields.{RowFields}
-use Rattle.ucl_rows.specs.declared.line.RowFields.TheVariants as seen
+use Rattle.ucl_screen.specs.declared.rows.RowFields.{RowFields}
+use Rattle.ucl_screen.specs.declared.rows.RowFields.TheVariants as seen
 
 -- whether a line with its end has at most 256 bytes before it: a line feed, or a carriage return and a line feed
 abbrev pub fits : List ℕ → Bool

@@ -18,6 +18,7 @@ pub use answer::{
 pub use bad_row::{BadField, bad_field};
 pub use ending::{ended, exit_without_command, print_fault, print_refusal};
 pub use fault::{RunFault, of_driver, status_of};
-pub use line::{MAX_ROW_LINE_BYTES, RowFields, plain_row, read_row};
+pub use line::{MAX_ROW_LINE_BYTES, plain_row, read_row};
 pub use output::{put_text, put_under};
+pub use ucl_screen::RowFields;
 pub use words::{WordLines, word_lines};

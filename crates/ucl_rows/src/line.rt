@@ -9,22 +9,15 @@ ghost use Rattle.ucl_rows.specs.Rows.{Row, fits, line_seen, of_rows, rows_on, sa
 use arrayvec::ArrayVec;
 use csv::ByteRecord;
 use std::alloc::{AllocError, Global};
-use ucl_screen::{FirstRow, Four, first_row, four_fields, next_row, open_rows, without_mark};
+use ucl_screen::{
+    FirstRow, Four, RowFields, first_row, four_fields, next_row, open_rows, without_mark,
+};
 
 /// The most bytes of a line before its end.
 const MAX_ROW_BYTES: usize = 256;
 
 /// The most bytes that are read of a line: 256, and the two of its end.
 pub const MAX_ROW_LINE_BYTES: usize = 258;
-
-/// What a line says that is not empty.
-#[derive(Clone, Copy)]
-pub enum RowFields<'a> {
-    /// A row of these four fields.
-    Four(Four<'a>),
-    /// A row of fewer fields, or of more; or several rows; or it is too long to be read.
-    Other,
-}
 
 /// Returns whether a line, given without its line feed, has at most 256 bytes before its end, to which a last carriage return belongs.
 fn fits(line: &[u8]) -> bool

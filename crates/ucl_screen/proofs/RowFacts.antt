@@ -7,6 +7,9 @@ use Rattle.ucl_screen.proofs.Common.{next_record, records_from, refl, rows-end, 
 use Rattle.ucl_screen.proofs.Common.{strip_bom, suc, took_first, true, word_of_row, words_from, zero, ℕ, ◌++◌, ◌+◌, ◌-◌, ◌<◌, ◌>>=◌, ◌∙◌}
 use Rattle.ucl_screen.proofs.Common.{◌∷◌, ◌≡◌, ◌≤◌, ◌⊎◌}
 use Rattle.std.proofs.lemmas.List.{append-nil}
+use Rattle.ucl_screen.specs.RowsAhead.{ReadsNext}
+use Rattle.ucl_screen.specs.declared.rows.RowFields.{RowFields}
+use Rattle.ucl_screen.specs.declared.rows.RowFields.TheVariants as row
 use Rattle.csv.specs.declared.parser.State.TheVariants as st
 use Rattle.csv.specs.declared.parser.Action.TheVariants as act
 
@@ -220,9 +223,10 @@ unfolding words_from
 word-missing front n more game e = rw e refl
 
 -- a row after the last word is the fault BadRow with its number, four more than the match's would be
-pub word-over : (front : List ℕ) (n game : ℕ) (fields : Fields) (rows : List Fields) → n ≡ zero → with_front front (words_from n game (fields ∷ rows)) ≡ Err (BadRow (game + 4))
+pub word-over : (front : List ℕ) (n game : ℕ) (fields : RowFields) (old new : List Fields) → n ≡ zero → ReadsNext (Some fields) old new → with_front front (words_from n game old) ≡ Err (BadRow (game + 4))
 unfolding words_from
-word-over front n game fields rows e = rw e refl
+word-over front n game (row.Four four) old new e reads = rw (reads, e) refl
+word-over front n game row.Other old new e reads = rw (reads.1, e) refl
 
 -- without further words or rows the words are those read so far
 pub words-done : (front : List ℕ) (n game : ℕ) → n ≡ zero → with_front front (words_from n game []) ≡ Ok front

@@ -1,8 +1,10 @@
 -- The rows of an input that are ahead, and what reading one of them does.
-use Rattle.std.specs.Prelude.{◌≡◌, ⊤, List, [], ◌∷◌, Option, Some, None, option_map}
-use Rattle.ucl_screen.specs.declared.rows.Four.{Four}
+use Rattle.std.specs.Prelude.{◌≡◌, ⊤, List, [], ◌∷◌, Option, Some, None}
+use Rattle.ucl_screen.specs.declared.rows.RowFields.{RowFields}
+use Rattle.ucl_screen.specs.declared.rows.RowFields.TheVariants as row
 use Rattle.ucl_screen.specs.declared.rows.Rows.{Rows}
 use Rattle.ucl_screen.specs.declared.rows.Rows.TheVariants.{Plain, Csv}
+use Rattle.ucl_screen.specs.PlainRows.{fields_of_four}
 use Rattle.ucl_screen.specs.Rows.{Fields, IsReading, four_of, four_seen, rows_left, rows_of}
 
 -- the rows that are ahead: those of a text, or those that `csv` has left to read
@@ -15,7 +17,8 @@ abbrev pub IsOpen : Rows → Type 0
 IsOpen (Plain text) = ⊤
 IsOpen (Csv reader) = IsReading reader
 
--- a read found no row, or the next one: its four fields, or None if it has more or fewer; `old` and `new` are the rows ahead before and after
-abbrev pub ReadsNext : Option (Option Four) → List Fields → List Fields → Type 0
+-- a read of the next row found these fields, or None if there is no row; `old` and `new` are the rows ahead before and after
+abbrev pub ReadsNext : Option RowFields → List Fields → List Fields → Type 0
 ReadsNext None old new = old ≡ []
-ReadsNext (Some row) old new = (fields : Fields) × (old ≡ fields ∷ new) × (option_map four_seen row ≡ four_of fields)
+ReadsNext (Some (row.Four four)) old new = old ≡ fields_of_four (four_seen four) ∷ new
+ReadsNext (Some row.Other) old new = (fields : Fields) × (old ≡ fields ∷ new) × (four_of fields ≡ None)

@@ -39,7 +39,7 @@ pub use reading::{
     FIRST_EVENT_ROW, club_of_fields, event_of_fields, lent_club, night_of_bytes, read_night,
     read_words,
 };
-pub use rows::{Four, four_fields, next_row, open_rows};
+pub use rows::{Four, RowFields, four_fields, next_row, open_rows};
 pub use sheet::Sheet;
 pub use text::{is_group, letter_in, matches_in_play, screen, text_of};
 pub use theorems::lines_have_53_columns;

@@ -3,7 +3,7 @@
 //! contracts `gives` says that the result is the defined one unless memory ran out, and `kinds` which faults there can be: `BadRow`,
 //! `BadRoster`, `TooLong` and `OutOfMemory`.
 
-ghost use Rattle.std.specs.Prelude.{◌≡◌, ◌+◌, ◌≤◌, length, Some, option_and_then, option_map, IfErr, IfOk, OnOk};
+ghost use Rattle.std.specs.Prelude.{◌≡◌, ◌+◌, ◌≤◌, length, Some, option_map, IfErr, IfOk, OnOk};
 ghost use Rattle.ucl_order.specs.Roster.{club_lent, club_seen};
 ghost use Rattle.ucl_screen.specs.Input.{Reads, CallsRead, max_bytes};
 ghost use Rattle.ucl_screen.specs.Rows.{four_seen, rows_of};
@@ -15,7 +15,7 @@ ghost use Rattle.ucl_screen.specs.Parsing.{AnswersAsSaid, MeansNight, MeansSheet
 use crate::fault::InputFault;
 use crate::fields::{call_of_fields, hex_word, number, reporter_of_field};
 use crate::night::{Night, NightEvent};
-use crate::rows::{Four, Rows};
+use crate::rows::{Four, RowFields, Rows};
 use crate::sheet::Sheet;
 use crate::transfer::{MAX_INPUT_BYTES, read_all};
 use csv::ByteRecord;
@@ -70,7 +70,7 @@ fn club_at(alloc: Global, number: u8, rows: &mut Rows<'_>) -> Result<Club, Input
         row: u32::from(number),
     };
     let mut record = ByteRecord::new(alloc);
-    let Some(Some(fields)) = rows.next(alloc, &mut record)? else {
+    let Some(RowFields::Four(fields)) = rows.next(alloc, &mut record)? else {
         return Err(bad);
     };
     match club_of_fields(alloc, number, &fields)? {
@@ -109,13 +109,6 @@ pub fn event_of_fields(fields: &Four<'_>) -> Option<NightEvent>
     Some(NightEvent { reporter, call })
 }
 
-/// Parses the event of a row of a script; `None` if the row has not four fields or they are no event.
-fn event_of(row: Option<Four<'_>>) -> Option<NightEvent>
-    ensures { result ≡ option_and_then event_of (option_map four_seen row.entry) }
-{
-    event_of_fields(&row?)
-}
-
 /// Reads the rows that are left, which are those of a script from row 5 on, and parses their events. `BadRow` with the first that is none.
 fn events_at(alloc: Global, rows: &mut Rows<'_>) -> Result<Vec<NightEvent>, InputFault>
     requires open { IsOpen rows.old }
@@ -129,7 +122,10 @@ fn events_at(alloc: Global, rows: &mut Rows<'_>) -> Result<Vec<NightEvent>, Inpu
     let mut events = Vec::new(alloc);
     let mut number = u32::from(FIRST_EVENT_ROW);
     'rows: while let Some(row) = rows.next(alloc, &mut record)? {
-        match event_of(row) {
+        let RowFields::Four(fields) = row else {
+            return Err(InputFault::BadRow { row: number });
+        };
+        match event_of_fields(&fields) {
             None => return Err(InputFault::BadRow { row: number }),
             Some(event) => events.push(event)?,
         }
@@ -206,13 +202,6 @@ fn word_of_fields(game: u8, fields: &Four<'_>) -> Option<u64>
     hex_word(fields.third)
 }
 
-/// Parses the match word of a row, which is that of this match, 1 to 12; `None` if the row has not four fields or they are not of the form.
-fn word_of_row(game: u8, row: Option<Four<'_>>) -> Option<u64>
-    ensures { result ≡ option_and_then (word_of_row game) (option_map four_seen row.entry) }
-{
-    word_of_fields(game, &row?)
-}
-
 /// Reads the rows that are left, which are rows 5 to 16, and parses the match words of matches 1 to 12. `BadRow` with the first row that is
 /// missing or bad, or 17 if there is a row more.
 fn words_at(alloc: Global, rows: &mut Rows<'_>) -> Result<[u64; 12], InputFault>
@@ -229,7 +218,10 @@ fn words_at(alloc: Global, rows: &mut Rows<'_>) -> Result<[u64; 12], InputFault>
         let Some(row) = rows.next(alloc, &mut record)? else {
             return Err(bad);
         };
-        match word_of_row(game, row) {
+        let RowFields::Four(fields) = row else {
+            return Err(bad);
+        };
+        match word_of_fields(game, &fields) {
             Some(word) => words[usize::from(game - 1)] = word,
             None => return Err(bad),
         }

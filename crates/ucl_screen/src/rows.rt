@@ -23,6 +23,15 @@ pub struct Four<'a> {
     pub fourth: &'a [u8],
 }
 
+/// The fields of a row.
+#[derive(Clone, Copy)]
+pub enum RowFields<'a> {
+    /// These four fields.
+    Four(Four<'a>),
+    /// Fewer fields, or more.
+    Other,
+}
+
 /// Creates a reader of the rows of a text. The first row is no heading, and rows may have any number of fields.
 #[tactic(auto, using(crate::proofs::RowFacts::few_rows), unfolding(crate::specs::Rows::rows_from))]
 pub fn open_rows(alloc: Global, text: &[u8]) -> Reader<&[u8]>
@@ -69,19 +78,21 @@ pub fn four_fields(row: &ByteRecord) -> Option<Four<'_>>
     }
 }
 
-/// Reads the next row by `csv` into `record`: `None` if there is none, else its four fields, or `None` if it has more or fewer.
+/// Reads the next row by `csv` into `record`; `None` if there is none.
 fn next_by_csv<'r>(
     rows: &mut Reader<&[u8]>,
     record: &'r mut ByteRecord,
-) -> Result<Option<Option<Four<'r>>>, AllocError>
+) -> Result<Option<RowFields<'r>>, AllocError>
     requires { IsReading rows.old }
     ensures reading { IfOk result (λ row. IsSome row → IsReading rows.new) }
     ensures reads { IfOk result (λ row. ReadsNext row (rows_left rows.old) (rows_left rows.new)) }
 {
-    if next_row(rows, record)? {
-        Ok(Some(four_fields(record)))
-    } else {
-        Ok(None)
+    if !next_row(rows, record)? {
+        return Ok(None);
+    }
+    match four_fields(record) {
+        Some(four) => Ok(Some(RowFields::Four(four))),
+        None => Ok(Some(RowFields::Other)),
     }
 }
 
@@ -95,13 +106,32 @@ pub(crate) enum Rows<'a> {
 }
 
 impl<'a> Rows<'a> {
-    /// Reads the next row, which `csv` reads into `record`: `None` if there is none, else its four fields, or `None` if it has more or fewer.
-    /// It fails only if an allocation is refused.
+    /// Reads the first row of a text as `next` does, by `csv`, which reads the rows from now on. A reader takes many bytes of the stack.
+    #[cold]
+    #[inline(never)]
+    fn first_by_csv<'r>(
+        &mut self,
+        alloc: Global,
+        text: &'a [u8],
+        record: &'r mut ByteRecord,
+    ) -> Result<Option<RowFields<'r>>, AllocError>
+    where
+        'a: 'r,
+        ensures open { IfOk result (λ row. IsSome row → IsOpen self.new) }
+        ensures reads { IfOk result (λ row. ReadsNext row (rows_of text.now) (rows_ahead self.new)) }
+    {
+        let mut reader = open_rows(alloc, text);
+        let row = next_by_csv(&mut reader, record)?;
+        *self = Rows::Csv(reader);
+        Ok(row)
+    }
+
+    /// Reads the next row, by `csv` into `record`; `None` if there is none. It fails only if an allocation is refused.
     pub fn next<'r>(
         &mut self,
         alloc: Global,
         record: &'r mut ByteRecord,
-    ) -> Result<Option<Option<Four<'r>>>, AllocError>
+    ) -> Result<Option<RowFields<'r>>, AllocError>
     where
         'a: 'r,
         requires { IsOpen self.old }
@@ -113,13 +143,11 @@ impl<'a> Rows<'a> {
                 FirstRow::None => Ok(None),
                 FirstRow::Four(four, rest) => {
                     *text = rest;
-                    Ok(Some(Some(four)))
+                    Ok(Some(RowFields::Four(four)))
                 }
                 FirstRow::Other | FirstRow::Unread => {
-                    let mut reader = open_rows(alloc, *text);
-                    let row = next_by_csv(&mut reader, record)?;
-                    *self = Rows::Csv(reader);
-                    Ok(row)
+                    let text = *text;
+                    self.first_by_csv(alloc, text, record)
                 }
             },
             Rows::Csv(reader) => next_by_csv(reader, record),

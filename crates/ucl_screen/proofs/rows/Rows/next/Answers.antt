@@ -1,4 +1,3 @@
-use Rattle.ucl_screen.proofs.Common.{refl}
 use Rattle.ucl_screen.proofs.PlainRows.{none_ahead, row_ahead}
 use Rattle.ucl_screen.specs.PlainRows.{fields_of_four}
 use Rattle.ucl_screen.specs.Rows.{four_seen}
@@ -10,5 +9,5 @@ returns-in-None-clause-reads c =
 
 pub returns-in-Four-clause-reads : goal.returns-in-Four-clause-reads
 returns-in-Four-clause-reads c =
-    let row = fields_of_four (four_seen c.in-Four.four) in
-    (row, rw c.in-Plain.is (row_ahead c.in-Plain.text.now c.without_mark.result.now c.in-Four.rest.now row c.without_mark.ensures c.in-Four.ensures), refl)
+    rw c.in-Plain.is
+    (row_ahead c.in-Plain.text.now c.without_mark.result.now c.in-Four.rest.now (fields_of_four (four_seen c.in-Four.four)) c.without_mark.ensures c.in-Four.ensures)
