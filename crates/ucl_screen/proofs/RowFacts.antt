@@ -223,7 +223,8 @@ unfolding words_from
 word-missing front n more game e = rw e refl
 
 -- a row after the last word is the fault BadRow with its number, four more than the match's would be
-pub word-over : (front : List ℕ) (n game : ℕ) (fields : RowFields) (old new : List Fields) → n ≡ zero → ReadsNext (Some fields) old new → with_front front (words_from n game old) ≡ Err (BadRow (game + 4))
+pub word-over : (front : List ℕ) (n game : ℕ) (fields : RowFields) (old new : List Fields) → n ≡ zero → ReadsNext (Some fields) old new
+    → with_front front (words_from n game old) ≡ Err (BadRow (game + 4))
 unfolding words_from
 word-over front n game (row.Four four) old new e reads = rw (reads, e) refl
 word-over front n game row.Other old new e reads = rw (reads.1, e) refl
