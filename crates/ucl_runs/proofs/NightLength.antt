@@ -25,6 +25,10 @@ step-of : {A B : Type 0} (r : Result A InputFault) (f : A → Result B InputFaul
 step-of (Ok x) f b is = (x, refl, is)
 step-of (Err fault) f b is = cc is
 
+-- two equal results that are Ok have equal values
+same-ok : {A : Type 0} (x y : A) → ◌≡◌ {A = Result A InputFault} (Ok x) (Ok y) → x ≡ y
+same-ok x y e = cc
+
 -- the clubs that a script begins with are a roster, if they were read
 roster-read : (rows : List Fields) (read : List NamedClub × List Fields) → roster_at rows ≡ Ok read → IsRoster read.0
 unfolding roster_at
