@@ -951,13 +951,13 @@ def test_boards_and_brokers_are_killed_while_three_reporters_type(site, seed, ki
     site.open_broker()
     begun, board = time.monotonic(), site.line(LINES["The board"].strip())
     assert desk(site)["version"] == 0
-    # Rows come as long as there are kills, some kills in the midst of a start, and before each tenth a row is entered.
+    # Rows come as long as there are kills, some kills in the midst of a start, and before each tenth a row is entered. The rest come at once.
     start, chance = time.monotonic() - begun, random.Random(seed)
     rows = random_rows(chance, min(90 + kills, ROWS))
     for number in 1, 2, 3:
         own = [f"{number}{row[1:]}" for row in rows if int(row.split(",")[1]) % 3 == number % 3]
         (site.path / f"rows-{number}").write_text("".join(own))
-    typed = lambda number: f"while read row; do sleep {2 * start:.2f}; echo $row; done <rows-{number}"
+    typed = lambda number: f"while read row; do [ -e calm ] || sleep {2 * start:.2f}; echo $row; done <rows-{number}"
     report = lambda number: site.line(f"{typed(number)} | ./ucl_reporter --broker a --number {number} --again 0.5 --limit 3600 >entered-{number}")
     reporters = {number: report(number) for number in (1, 2, 3)}
     entered = lambda: sum(path.read_text().count(" entered") for path in site.path.glob("entered-?"))
@@ -973,6 +973,7 @@ def test_boards_and_brokers_are_killed_while_three_reporters_type(site, seed, ki
             board.kill()
             board.start()
     print(f"{entered()} of {len(rows)} rows were entered meanwhile")
+    (site.path / "calm").touch()
     for number, reporter in reporters.items():
         assert reporter.shell.wait() == 0, (seed, (site.path / "errors").read_text()[-300:])
         told, own = (site.path / f"entered-{number}").read_text(), (site.path / f"rows-{number}").read_text().splitlines()

@@ -371,7 +371,7 @@ def test_a_lock_that_another_holds(tmp_path, live):
             assert 1.9 < waited < 9, waited
             with open(record.path, "ab") as beside:
                 beside.write(b"2,1,3,goal-away\n")
-            while reader.moment.version < 4:
+            while min(reader.moment.version, record.moment.version) < 4:
                 await asyncio.sleep(0.01)
             await reader.close()
         assert isinstance((await record.append([goal(record)], 0))[0].answer, Accepted)

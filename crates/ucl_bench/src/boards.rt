@@ -15,24 +15,26 @@ pub const ALL_EVENTS: u16 = 4095;
 
 /// A live board that can be opened.
 pub trait Opens: LiveBoard + Drop {
-    /// The fresh board, and the pass from which all its passes come.
+    /// Opens a fresh board, and returns it with its first pass, a reader's, from which all others are made.
     fn fresh<R>(rt: &R, alloc: Global) -> Result<(Self, Self::ReaderPass), OutOfMemory>
         ensures { IfOk result (λ opened. Self.LiveBoard.is_reader opened.0 opened.1) };
 }
 
 impl Opens for WordBoard {
+    /// Opens a fresh word board, and returns it with its first pass.
     fn fresh<R>(rt: &R, alloc: Global) -> Result<(WordBoard, WordReaderPass), OutOfMemory> {
         WordBoard::open(rt, alloc)
     }
 }
 
 impl Opens for CellBoard {
+    /// Opens a fresh cell board, and returns it with its first pass.
     fn fresh<R>(rt: &R, alloc: Global) -> Result<(CellBoard, CellReaderPass), OutOfMemory> {
         CellBoard::open(rt, alloc)
     }
 }
 
-/// A new reporter of the board.
+/// Makes a reporter's pass of the board from a pass that is split off `reader`.
 pub fn enlist<B: LiveBoard, R: Wait>(
     rt: &R,
     board: &B,
@@ -46,8 +48,8 @@ pub fn enlist<B: LiveBoard, R: Wait>(
     board.enlist(rt, pass).ok().context("no number is left")
 }
 
-/// A reading that is really taken: the call is not put into the caller, so its answer is made in full. Nothing else reads: a second caller
-/// would keep the board's `read` out of this one, which would copy its answer.
+/// Takes a reading. The call is never inlined, so that the whole reading is made. No other call of the board's `read` is in the program:
+/// with a second one `read` would not be inlined here, and its answer would be copied.
 #[inline(never)]
 pub fn read_once<B: LiveBoard, R: Wait>(rt: &R, board: &B, pass: &mut B::ReaderPass) -> Reading
     requires { B.is_reader board.now pass.old }
@@ -74,7 +76,8 @@ pub fn read_often<B: LiveBoard, R: Wait>(
     versions
 }
 
-/// A report that is really made, and the event number that it was given; nothing if it was refused.
+/// Makes a report, and returns the event number that it got, or nothing if it was refused. The call is never inlined, so that the whole
+/// report is made.
 #[inline(never)]
 pub fn report_once<B: LiveBoard, R: Wait>(
     rt: &R,
@@ -110,7 +113,7 @@ pub fn enter<B: LiveBoard, R: Wait>(
     numbers
 }
 
-/// The kind of a match's event: a kick-off, then a home goal and a home goal disallowed in turn, and last full time.
+/// The kind of a match's event after `expected` others: a kick-off, then a home goal and its disallowing in turn, and last full time.
 fn kind_at(expected: u16) -> Kind {
     match expected {
         0 => Kind::KickOff,
@@ -120,7 +123,7 @@ fn kind_at(expected: u16) -> Kind {
     }
 }
 
-/// The first events of all matches, so many of each, one match after the other.
+/// The first `each` events of all twelve matches, one match after the other.
 pub fn events_of(alloc: Global, each: u16) -> Result<Vec<EventCall>, AllocError> {
     let mut events = Vec::new(alloc);
     for game in (1..=12).filter_map(MatchNo::new) {

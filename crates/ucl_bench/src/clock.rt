@@ -14,7 +14,7 @@ pub fn nanos(clock: &impl Clock) -> u64 {
     }
 }
 
-/// The time since another.
+/// The nanoseconds since `begun`, an earlier time that `nanos` gave.
 pub fn nanos_since(clock: &impl Clock, begun: u64) -> u64 {
     nanos(clock).saturating_sub(begun)
 }
@@ -28,6 +28,7 @@ pub struct Least {
 }
 
 impl Least {
+    /// The least time of rounds of so many calls, before the first round.
     pub fn of(calls: usize) -> Least {
         Least {
             calls: calls as u64,
@@ -36,7 +37,7 @@ impl Least {
         }
     }
 
-    /// Counts a round.
+    /// Counts a round that took so many nanoseconds; `answers` is the sum of its answers.
     pub fn add(&mut self, nanos: u64, answers: u64) {
         self.nanos = self.nanos.min(nanos);
         self.answers = answers;
@@ -44,6 +45,7 @@ impl Least {
 }
 
 impl fmt::Display for Least {
+    /// Writes a JSON object: the calls of a round, the nanoseconds of the fastest round, and the sum of the answers of the last.
     fn fmt<W: fmt::Write>(&self, f: &mut fmt::Formatter<W>) -> fmt::Result {
         let Least {
             calls,

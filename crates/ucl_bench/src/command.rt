@@ -38,7 +38,7 @@ fn workers_of(digits: &str, most: u8) -> Option<u8> {
     digits.parse::<u8>().ok().filter(|workers| *workers <= most)
 }
 
-/// A plan by its name: `mix-R-W` or `paced-R-W`, with R readers and W reporters.
+/// A plan, how many readers and reporters work at once and at what pace, by its name: `mix-R-W` or `paced-R-W`, R readers and W reporters.
 fn plan_of(name: &str) -> Option<Plan> {
     let (style, workers) = name.split_once('-')?;
     let (readers, reporters) = workers.split_once('-')?;
@@ -54,7 +54,7 @@ fn plan_of(name: &str) -> Option<Plan> {
     })
 }
 
-/// Measures a board, and prints the figures.
+/// Measures a kind of board under a workload, `read`, `report` or the name of a plan of readers and reporters, and prints the figures.
 fn measure_board<B: Opens, R: Print + Threads + Wait + Clock + Sync>(
     rt: &R,
     alloc: Global,
@@ -72,7 +72,7 @@ fn measure_board<B: Opens, R: Print + Threads + Wait + Clock + Sync>(
     Ok(())
 }
 
-/// Prints what a short run of a board comes to, which is the same each time.
+/// Prints the sums of a short run of a kind of board, always the same: versions read, event numbers given, and events of a night.
 fn check_board<B: Opens, R: Print + Threads + Wait + Clock + Sync>(
     rt: &R,
     alloc: Global,
@@ -95,7 +95,8 @@ fn boards_in<R: Files + AllocGlobal>(rt: &R, alloc: Global, path: &str) -> Resul
     boards_of(alloc, fs::read_to_string(rt, path)?.as_str())
 }
 
-/// Measures what the words name, and prints a line of JSON.
+/// Measures a workload of a subject, as the command line names them, for so many milliseconds, and prints a line of JSON. Boards come from
+/// the file `path`.
 fn measure_words<R: Print + Files + AllocGlobal + Threads + Wait + Clock + Sync>(
     rt: &R,
     alloc: Global,
@@ -126,7 +127,7 @@ fn measure_words<R: Print + Files + AllocGlobal + Threads + Wait + Clock + Sync>
     }
 }
 
-/// A word; empty if there is none.
+/// Word `i` of the command line; empty if there is none.
 fn word_at(words: &[String], i: usize) -> &str {
     match words.get(i) {
         Some(word) => word.as_str(),
@@ -134,7 +135,7 @@ fn word_at(words: &[String], i: usize) -> &str {
     }
 }
 
-/// Does what the words ask for; the first of them is the program's name.
+/// Does what the command line asks for: `check`, `screens`, `run` or `--help`. The first word is the program's name.
 pub fn run<R: Print + Files + AllocGlobal + Threads + Wait + Clock + Sync>(
     rt: &R,
     alloc: Global,

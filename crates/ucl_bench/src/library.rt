@@ -12,7 +12,7 @@ use ucl_board::Board;
 use ucl_json::screen_json;
 use ucl_order::{LentClub, Profile, Roster};
 
-/// The club in a slot, lent.
+/// The club in a slot, borrowed from the roster: the form in which calls from other languages pass clubs.
 fn lent(roster: &Roster, slot: u8) -> LentClub<'_>
     requires { IsSlot slot }
 {
@@ -22,13 +22,13 @@ fn lent(roster: &Roster, slot: u8) -> LentClub<'_>
     }
 }
 
-/// The board, read anew.
+/// The board made again from its words, which are checked, as in each call from another language.
 #[inline(never)]
 fn board_anew(board: &Board) -> Result<Board> {
     Board::of_words(&board.words()).ok().context("no board")
 }
 
-/// The roster, read anew.
+/// The roster made again from its clubs, which are checked, as in each call from another language.
 fn roster_anew(roster: &Roster) -> Result<Roster> {
     let clubs = [
         lent(roster, 1),
@@ -46,7 +46,7 @@ fn json_once(alloc: Global, board: &Board, roster: &Roster) -> Result<u64> {
     Ok(line.ok().context("no memory")?.len() as u64)
 }
 
-/// Measures what a call does, over boards.
+/// Measures a call of the library for other languages, which `name` names, over these boards, for about so many milliseconds.
 pub fn measure_library<R: Wait + Clock>(
     rt: &R,
     alloc: Global,

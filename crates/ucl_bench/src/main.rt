@@ -12,6 +12,7 @@ mod tables;
 
 use std::env;
 
+/// Measures what the command line asks for.
 fn main(rt: HostRuntime) -> anyhow::Result<()> {
     let words = env::args(&rt)?.collect::<Vec<String>>(rt.alloc())?;
     command::run(&rt, rt.alloc(), &words)

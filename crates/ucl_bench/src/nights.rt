@@ -53,6 +53,7 @@ pub struct Figures {
 }
 
 impl Figures {
+    /// The figures of no work: no reading, no event, and no time counted.
     fn new(alloc: Global) -> Result<Figures, AllocError> {
         Ok(Figures {
             reads: 0,
@@ -63,7 +64,7 @@ impl Figures {
         })
     }
 
-    /// Adds what another worker, or another night, came to.
+    /// Adds the figures of another worker, or of another night.
     fn add(&mut self, other: &Figures) {
         self.reads = self.reads.wrapping_add(other.reads);
         self.read_nanos = self.read_nanos.wrapping_add(other.read_nanos);
@@ -74,7 +75,7 @@ impl Figures {
         }
     }
 
-    /// Counts the time of a reading.
+    /// Counts a timed reading, which took so many nanoseconds.
     fn count(&mut self, nanos: u64) {
         let place = (nanos as usize).min(LONG - 1);
         if let Some(count) = self.times.get_mut(place) {
@@ -82,7 +83,7 @@ impl Figures {
         }
     }
 
-    /// The time that so many thousandths of the timed readings did not pass.
+    /// A quantile of the timed readings: the nanoseconds that at least so many thousandths of them took at most; 0 if none was timed.
     fn time_at(&self, thousandths: u64) -> usize {
         let mut all = 0u64;
         for count in self.times.iter() {
@@ -101,6 +102,7 @@ impl Figures {
 }
 
 impl fmt::Display for Figures {
+    /// Writes the figures as a JSON object, with the median and the 99.9th percentile of the timed readings.
     fn fmt<W: fmt::Write>(&self, f: &mut fmt::Formatter<W>) -> fmt::Result {
         let Figures {
             reads,
@@ -130,11 +132,12 @@ struct Night<'e> {
 }
 
 impl Night<'_> {
+    /// How many threads work in the night: its readers and its reporters.
     fn workers(&self) -> u64 {
         u64::from(self.plan.readers).wrapping_add(u64::from(self.plan.reporters))
     }
 
-    /// Comes to the night, and waits until all have.
+    /// Counts a worker of the night as ready, and waits until all are.
     fn begin<R: Wait>(&self, rt: &R) {
         self.come.fetch_add(1, Ordering::SeqCst);
         for _ in rt.forever() {
@@ -145,12 +148,13 @@ impl Night<'_> {
         }
     }
 
+    /// Whether all reporters of the night have ended; whether it was ended, if it has no reporter.
     fn has_ended(&self) -> bool {
         self.ended.load(Ordering::SeqCst) >= u64::from(self.plan.reporters.max(1))
     }
 }
 
-/// Reads through a night.
+/// Takes readings until the night has ended, and keeps in `own` how many they were, and how long they took together.
 fn read_freely<B: LiveBoard, R: Wait + Clock>(
     rt: &R,
     board: &B,
@@ -171,7 +175,7 @@ fn read_freely<B: LiveBoard, R: Wait + Clock>(
     own.read_nanos = nanos_since(rt, begun);
 }
 
-/// Reads through a night, and times each reading.
+/// Takes readings until the night has ended, and counts in `own` how long each took.
 fn read_timed<B: LiveBoard, R: Wait + Clock>(
     rt: &R,
     board: &B,
@@ -191,7 +195,7 @@ fn read_timed<B: LiveBoard, R: Wait + Clock>(
     }
 }
 
-/// What a reader does in a night.
+/// Waits until all workers are ready, takes readings until the night has ended, and adds their figures to those of the night.
 fn read_night<B: LiveBoard, R: Wait + Clock>(
     rt: &R,
     board: &B,
@@ -211,7 +215,7 @@ fn read_night<B: LiveBoard, R: Wait + Clock>(
     night.figures.lock(rt).add(&own);
 }
 
-/// Waits until an event is due.
+/// Waits, without sleeping, until the clock has come to `due`, in nanoseconds.
 fn wait_for<R: Wait + Clock>(rt: &R, due: u64) {
     for _ in rt.forever() {
         if nanos(rt) >= due {
@@ -220,7 +224,8 @@ fn wait_for<R: Wait + Clock>(rt: &R, due: u64) {
     }
 }
 
-/// Enters the events of those matches whose number leaves the reporter's index as remainder, and tells how many were accepted.
+/// Enters those events of the night whose match number, divided by the number of reporters, leaves the remainder `index`, at the pace of
+/// the plan. Returns how many were accepted.
 fn enter_own<B: LiveBoard, R: Wait + Clock>(
     rt: &R,
     board: &B,
@@ -246,7 +251,7 @@ fn enter_own<B: LiveBoard, R: Wait + Clock>(
     entered
 }
 
-/// What a reporter does in a night.
+/// Waits until all workers are ready, enters the events of the reporter with this index, and adds their number and time to the figures.
 fn enter_night<B: LiveBoard, R: Wait + Clock>(
     rt: &R,
     board: &B,
@@ -311,7 +316,7 @@ where
     Ok(())
 }
 
-/// Starts all workers of a night.
+/// Starts a thread for each reporter and each reader of a night, with passes that are made from `first`.
 fn start_workers<'s, E, B: LiveBoard, R: Wait + Clock + Sync>(
     scope: &Scope<'s, E>,
     rt: &'s R,
@@ -337,7 +342,8 @@ where
     Ok(())
 }
 
-/// Runs the workers of a night in threads. A night without a reporter, or one to which not all can come, ends after a while.
+/// Runs the workers of a night in threads until all have ended. A night without a reporter, or of which a worker could not start, is ended
+/// after 20 milliseconds.
 fn work<B: LiveBoard, R: Threads + Wait + Clock + Sync>(
     rt: &R,
     alloc: Global,
@@ -367,7 +373,8 @@ fn work<B: LiveBoard, R: Threads + Wait + Clock + Sync>(
     )
 }
 
-/// Holds a night on a fresh board, whose version at the end has to be the number of events that were accepted. A timed night tells no rate.
+/// Holds a night on a fresh board, and fails unless the version at its end is the number of accepted events. If each reading is timed, the
+/// figures leave out the events.
 fn hold_night<B: Opens, R: Threads + Wait + Clock + Sync>(
     rt: &R,
     alloc: Global,
@@ -397,7 +404,7 @@ fn hold_night<B: Opens, R: Threads + Wait + Clock + Sync>(
     Ok(figures)
 }
 
-/// Holds nights for so many milliseconds, at least one of each sort.
+/// Holds nights for about so many milliseconds, at least one of untimed and one of timed readings, and adds up their figures.
 pub fn hold_nights<B: Opens, R: Threads + Wait + Clock + Sync>(
     rt: &R,
     alloc: Global,

@@ -14,7 +14,7 @@ const CHUNK: usize = 4096;
 /// How many events are entered in each match before a board is read.
 const EVENTS_BEFORE: u16 = 100;
 
-/// Reads a board for so many milliseconds.
+/// Measures readings of a board, on which 100 events of each match were entered, for about so many milliseconds.
 pub fn measure_read<B: Opens, R: Wait + Clock>(
     rt: &R,
     alloc: Global,
@@ -36,7 +36,7 @@ pub fn measure_read<B: Opens, R: Wait + Clock>(
     Ok(least)
 }
 
-/// Enters events on a fresh board, and times each whole chunk of them.
+/// Enters events on a fresh board in chunks of 4096, and times each chunk; the events after the last whole chunk are left out.
 fn time_events<B: Opens, R: Wait + Clock>(
     rt: &R,
     alloc: Global,
@@ -53,7 +53,7 @@ fn time_events<B: Opens, R: Wait + Clock>(
     Ok(())
 }
 
-/// Enters all events of fresh boards for so many milliseconds.
+/// Measures reports for about so many milliseconds: enters whole chunks of all events of a board, on one fresh board after the other.
 pub fn measure_report<B: Opens, R: Wait + Clock>(
     rt: &R,
     alloc: Global,

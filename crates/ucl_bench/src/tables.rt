@@ -29,7 +29,7 @@ pub fn boards_of(alloc: Global, text: &str) -> Result<Vec<Board>> {
     Ok(boards)
 }
 
-/// A club of the roster.
+/// A club with this name and coefficient.
 fn club(alloc: Global, name: &[u8], coefficient: u32) -> Result<Club> {
     Ok(Club {
         name: name.to_vec(alloc)?,
@@ -37,7 +37,7 @@ fn club(alloc: Global, name: &[u8], coefficient: u32) -> Result<Club> {
     })
 }
 
-/// The roster of all boards.
+/// The roster of four clubs with which all boards are measured.
 pub fn roster(alloc: Global) -> Result<Roster> {
     let clubs = [
         club(alloc, b"Alpha", 60_000)?,
@@ -48,21 +48,21 @@ pub fn roster(alloc: Global) -> Result<Roster> {
     Roster::new(clubs).ok().context("no roster")
 }
 
-/// A table that is really made: the call is not put into the caller, so its answer is made in full. Answers the slot of the first club.
+/// Makes the table, and returns the slot of its first club. The call is never inlined, so that the whole table is made.
 #[inline(never)]
 pub fn first_once(board: &Board, roster: &Roster) -> u64 {
     let [first, ..] = standings(board, roster, Profile::Uefa);
     u64::from(first.slot)
 }
 
-/// A screen of group A that is really made, and how long it is.
+/// Makes the screen of group A, and returns its length. The call is never inlined, so that the whole screen is made.
 #[inline(never)]
 pub fn screen_once(alloc: Global, board: &Board, roster: &Roster) -> Result<u64, OutOfMemory> {
     let text = screen(alloc, board, roster, b'A', Profile::Uefa)?;
     Ok(text.len() as u64)
 }
 
-/// Takes an answer of all boards, again and again, for so many milliseconds.
+/// Measures `answer` on all boards, round after round, for about so many milliseconds.
 pub fn measure<R: Wait + Clock, F: Fn(&Board) -> Result<u64>>(
     rt: &R,
     boards: &[Board],
@@ -87,7 +87,7 @@ pub fn measure<R: Wait + Clock, F: Fn(&Board) -> Result<u64>>(
     Ok(least)
 }
 
-/// Measures the table or the screen of boards.
+/// Measures how fast tables (`name` is `standings`) or screens (`screen`) of these boards are made.
 pub fn measure_table<R: Wait + Clock>(
     rt: &R,
     alloc: Global,

@@ -63,7 +63,7 @@ legal_match g = may_induction MayFollow (λ h. IsLegalMatch (entries_of g h)) (m
 pub match_valid : (g : ℕ) (h : List Entry) → IsLegal h → IsValid (match_after h g)
 match_valid g h legal = legal_valid (entries_of g h) (legal_match g h legal)
 
--- P holds of n if it holds of k, and of each n that is not k
+-- P holds of n if it holds of k, and, in the case that n is not k, of n
 pub or_else : (P : ℕ → Type 0) (k : ℕ) → P k → (n : ℕ) → (n ≢ k → P n) → P n
 or_else P k p n other = dite (ℕ_discrete n k) (λ is. subst P (sym is) p) other
 
@@ -111,7 +111,7 @@ pub same_boards : (xs ys : List ℕ) → length xs ≡ 12 → length ys ≡ 12 �
 same_boards xs ys a b each = same_number_lists xs ys (a ∙ sym b)
     (λ k l. let e : k + 1 - 1 ≡ k = omega arith in subst (λ (k : ℕ). get_or xs k 0 ≡ get_or ys k 0) e (each (k + 1) (omega arith, omega arith)))
 
--- an entry changes the word of its match in the board
+-- the board with one entry more is the board before it, but for the word of the entry's match, which is that of its record after the entry
 pub board_next : (h : List Entry) (e : Entry) → IsMatch e.game → board_of (followed_by h e) ≡ set (board_of h) (e.game - 1) (word_of (match_after (followed_by h e) e.game))
 board_next h e game = let long = board_length h in
     same_boards (board_of (followed_by h e)) (set (board_of h) (e.game - 1) (word_of (match_after (followed_by h e) e.game))) (board_length (followed_by h e))
@@ -122,7 +122,8 @@ board_next h e game = let long = board_length h in
     (λ not. word_after (followed_by h e) g is ∙ (ap (λ (es : List MatchEntry). word_of (counted_match es)) (entries_else h e g not)
     ∙ (sym (word_after h g is) ∙ sym (get_or-set_other (board_of h) (e.game - 1) (g - 1) _ 0 (λ eq. not (omega arith)))))))
 
--- the board and the history after an accepted event
+-- suppose that each legal list of entries from which the match's record is counted stays legal with an event at its end, with m as its
+-- count; then the history with this event at its end is legal, and its board is the one before, but with the word of m for this match
 pub next_board : (h : List Entry) (words : List ℕ) (game reporter : ℕ) (kind : Kind) (m : MatchRecord) → IsLegal h → board_of h ≡ words → IsMatch game
     → ((es : List MatchEntry) → IsLegalMatch es → counted_match es ≡ game_at words game → (m ≡ counted_match (entered es reporter kind)) × IsLegalMatch (entered es reporter kind))
     → (set words (game - 1) (word_of m) ≡ board_of (followed_by h (record { game = game; reporter = reporter; kind = kind })))
@@ -145,7 +146,7 @@ board_words h legal = record {
       rw at (record { of = match_after h (get_or match_numbers k 0); valid = match_valid (get_or match_numbers k 0) h legal; packed = refl });
 }
 
--- on the board after a legal history the reply to an event is that after the history
+-- on the board after a legal history the reply to an event, by the record in the match's word, is the one counted from the history
 pub reply_is : (h : List Entry) (words : List ℕ) (call : EventCall) → IsLegal h → board_of h ≡ words → IsMatch call.game → reply_of (game_at words call.game) call ≡ sequential_reply h call
 reply_is h words call legal is range =
     let was : game_at words call.game ≡ match_after h call.game = ap (λ (ws : List ℕ). game_at ws call.game) (sym is) ∙ game_after h call.game legal range in
@@ -162,7 +163,8 @@ refused_reply m g call refusal same some = subst (λ (g : MatchRecord). Err refu
 
 -- ---- the board that twelve words are read as
 
--- one word more
+-- if the words before place i are read (converted to the present layout) as the words of `read`, and word i as `word`, then the words up to
+-- place i are read as those of `read` with `word` put in at i
 pub next_read : (words read : List ℕ) (i from at word : ℕ) → length read ≡ 12 → i < 12 → from ≡ i → at ≡ i
     → ((k : ℕ) → k < i → read_word (get_or words k 0) ≡ Some (get_or read k 0)) → read_word (get_or words from 0) ≡ Some word
     → (k : ℕ) → k < i + 1 → read_word (get_or words k 0) ≡ Some (get_or (set read at word) k 0)
@@ -170,7 +172,7 @@ next_read words read i from at word long few from_is at_is before now k below = 
     (λ is. rw (is, get_or-set_same read i word 0 (omega arith)) (subst (λ (n : ℕ). read_word (get_or words n 0) ≡ Some word) from_is now))
     (λ not. rw (get_or-set_other read i k word 0 not) (before k (omega arith))))
 
--- words that were read one by one are read as a board
+-- if each word of a list is read (converted to the present layout) as the word at its place in `read`, reading the list gives `read`
 all_read : (index : ℕ) (words read : List ℕ) → length read ≡ length words
     → ((k : ℕ) → k < length words → read_word (get_or words k 0) ≡ Some (get_or read k 0)) → read_words index words ≡ Ok read
 unfolding read_words
@@ -180,7 +182,7 @@ all_read index (w ∷ words) (r ∷ read) long each =
     let rest = all_read (index + 1) words read (omega arith) (λ k below. each (suc k) (omega arith)) in rw (first, rest) refl
 all_read index words read long each = absurd (omega arith)
 
--- the first bad word, where the words before it are read as `read` has them
+-- if word k of a list is of neither layout, and each word before it can be read, then reading fails with its index, `index` + k
 pub first_bad : (index k : ℕ) (words : List ℕ) (read : ℕ → ℕ) → k < length words → read_word (get_or words k 0) ≡ None
     → ((j : ℕ) → j < k → read_word (get_or words j 0) ≡ Some (read j)) → read_words index words ≡ Err (index + k)
 unfolding read_words
@@ -203,18 +205,18 @@ module _ (words read : List ℕ) (long : length words ≡ 12) (read_long : lengt
     each = λ k d below. let in_range : k < 12 = omega arith in rw (get_or_default read k d 0 below) (read_valid (get_or words k 0) (get_or read k 0) (each k in_range));
   }
 
--- words of this layout are read as they are, and what is read are words of this layout
+-- reading twelve words of the present layout gives these words as they are
 pub read_again : (words : List ℕ) → AreWords words → read_words 1 words ≡ Ok words
 read_again words are = are_read words words are.twelve are.twelve (λ k below. reads_word (get_or words k 0) (are.each k 0 (let long = are.twelve in omega arith)))
 
--- a word and then words that were read were each read
+-- if a word and the words after it are read as `board`, then the word is read, the words after it are read, and `board` is these results
 one_read : (word : Option ℕ) (index : ℕ) (rest : Result (List ℕ) ℕ) (board : List ℕ) → before_words word index rest ≡ Ok board
     → (new : ℕ) × (later : List ℕ) × (word ≡ Some new) × (rest ≡ Ok later) × (new ∷ later ≡ board)
 one_read (Some new) index (Ok later) board is = (new, later, refl, refl, cc)
 one_read (Some new) index (Err bad) board is = absurd cc
 one_read None index rest board is = absurd cc
 
--- words that are read are as many, and words of valid records
+-- if reading a list of words succeeds, it gives as many words, and each is the word of a valid record in the present layout
 pub read_are_words : (index : ℕ) (words board : List ℕ) → read_words index words ≡ Ok board → (length board ≡ length words) × All IsWord board
 unfolding read_words
 read_are_words index [] board is = let none : [] ≡ board = cc in rw (← none) (refl, All-nil IsWord)
@@ -234,12 +236,12 @@ game_of key = if key == 23 then 1 else (if key == 41 then 2 else
     (if key == 31 then 5 else (if key == 24 then 6 else
     (if key == 13 then 7 else (if key == 42 then 8 else (if key == 32 then 9 else (if key == 14 then 10 else (if key == 21 then 11 else (if key == 43 then 12 else 0)))))))))))
 
--- each match is the one that the number of its two clubs tells
+-- `game_of` gives back each match from the number that tells its two clubs, ten times the home slot plus the away slot
 game_back : (game : ℕ) → IsMatch game → game_of (key (fixture_of game)) ≡ game
 unfolding key game_of
 game_back = each_match (λ game. game_of (key (fixture_of game)) ≡ game) refl refl refl refl refl refl refl refl refl refl refl refl
 
--- each two clubs play one match, of which one is at home
+-- for any two different slots there is a match that the club in `home` plays at home against the club in `away`
 meet : (home : ℕ) → IsSlot home → (away : ℕ) → IsSlot away → home ≢ away → (game : ℕ) × IsMatch game × (fixture_of game ≡ at home away)
 meet = each_slot (λ home. (away : ℕ) → IsSlot away → home ≢ away → (game : ℕ) × IsMatch game × (fixture_of game ≡ at home away))
     (each_slot (λ away. 1 ≢ away → (game : ℕ) × IsMatch game × (fixture_of game ≡ at 1 away)) (λ not. absurd (not refl)) (λ not. (3, (omega arith, omega arith), refl))
@@ -265,10 +267,10 @@ pub beginnings : BeginningsAreLegal
 beginnings = may_begin MayFollow
 
 -- an entry adds one to the entries of its match
-pub more : (h : List Entry) (e : Entry) (g : ℕ) → e.game ≡ g → length (entries_of g (followed_by h e)) ≡ length (entries_of g h) + 1
-more h e g is = ap length (entries_same h e g is) ∙ length-append (entries_of g h) _
+pub one_entry_more : (h : List Entry) (e : Entry) (g : ℕ) → e.game ≡ g → length (entries_of g (followed_by h e)) ≡ length (entries_of g h) + 1
+one_entry_more h e g is = ap length (entries_same h e g is) ∙ length-append (entries_of g h) _
 
--- the event number of a match on the board of a legal history
+-- in the board after a legal history the event number in the word of a match is how many entries the match has in the history
 number_shown : (h : List Entry) (g : ℕ) → IsLegal h → (record_at (word_of (match_after h g))).number ≡ length (entries_of g h)
 number_shown h g legal = ap (λ (m : MatchRecord). m.number) (record_back (match_after h g) (match_valid g h legal)) ∙ number_of_count (entries_of g h)
 
@@ -284,7 +286,7 @@ version_more h e legal may =
     let sum = sum_by-set (λ word. (record_at word).number) (board_of h) (e.game - 1) (word_of (match_after (followed_by h e) e.game)) 0 (omega arith) in
     let before = ap (λ (word : ℕ). (record_at word).number) (word_after h e.game game) ∙ number_shown h e.game legal in
     let now = number_shown (followed_by h e) e.game (may_next MayFollow h e legal may) in
-    let one = more h e e.game refl in
+    let one = one_entry_more h e e.game refl in
     ap version_of (board_next h e game) ∙ omega arith
 
 -- the version of the board after a legal history is the length of the history
@@ -300,11 +302,11 @@ versions h legal =
     (λ k d below. number_valid _ (word_valid _ ((board_words h legal).each k d below))) in
     (is, omega arith)
 
--- of two beginnings the longer is the shorter and more
+-- if i is at most j, the first j entries of a history are its first i entries followed by some others
 begin_of : (h : List Entry) (i j : ℕ) → i ≤ j → (rest : List Entry) × (take j h ≡ take i h ++ rest)
 begin_of h i j le = (drop i (take j h), sym (take-append-drop i (take j h)) ∙ ap (λ (l : List Entry). l ++ drop i (take j h)) (take-take i j h le))
 
--- a match with as many entries at two places has the same entries there
+-- if a match has as many entries among the first i of a history as among the first j, with i at most j, then they are the same entries
 same_later : (h : List Entry) (i j g : ℕ) → i ≤ j → length (entries_of g (take i h)) ≡ length (entries_of g (take j h)) → entries_of g (take i h) ≡ entries_of g (take j h)
 same_later h i j g le same =
     let t = begin_of h i j le in
@@ -326,7 +328,7 @@ same_number h i j g same =
 pub legal_take : (h : List Entry) (k : ℕ) → IsLegal h → IsLegal (take k h)
 legal_take h k legal = may_begin MayFollow (take k h) (drop k h) (subst IsLegal (sym (take-append-drop k h)) legal)
 
--- a match with the same word at two places of a legal history has the same entries there
+-- if a match has the same word at two points of a legal history, it has the same entries at both
 pub same_word : SameWordSameEntries
 same_word h i j g legal same =
     let m = words_apart (match_after (take i h) g) (match_after (take j h) g) (match_valid g (take i h) (legal_take h i legal)) (match_valid g (take j h) (legal_take h j legal)) same in
@@ -344,13 +346,13 @@ one_word h e legal =
           let n = ap (λ (m : MatchRecord). m.number) m in
           let a = number_of_count (entries_of e.game (followed_by h e)) in
           let b = number_of_count (entries_of e.game h) in
-          let c = more h e e.game refl in
+          let c = one_entry_more h e e.game refl in
           omega arith;
       others = λ game is not. word_after (followed_by h e) game is
           ∙ (ap (λ (es : List MatchEntry). word_of (counted_match es)) (entries_else h e game (λ eq. not (sym eq))) ∙ sym (word_after h game is));
     }
 
--- an accepted attempt may follow
+-- the entry of an attempt that no rule refuses after a legal history may come next in this history
 pub may_attempt : (h : List Entry) (a : Attempt) → IsLegal h → IsAttempt a → refusal_of (match_after h a.call.game) a.call.expected a.call.kind ≡ None → MayFollow h (entry_of a.reporter a.call)
 may_attempt h a legal is none = record {
   game = is.1;
@@ -358,7 +360,7 @@ may_attempt h a legal is none = record {
       (counted (entries_of a.call.game h) (match_after h a.call.game) a.reporter a.call.expected a.call.kind (legal_match a.call.game h legal) refl is.0 none).1;
 }
 
--- by whether the rules accept an attempt, the board after it is that of the history after it, which is legal
+-- whether the rules accept an attempt (o is None) or refuse it, the board after it is that of the history after it, which is legal
 attempt_cases : (h : List Entry) (a : Attempt) (o : Option Refusal) → refusal_of (match_after h a.call.game) a.call.expected a.call.kind ≡ o → IsLegal h → IsAttempt a
     → ((if is_ok (answer (match_after h a.call.game).number o) then set (board_of h) (a.call.game - 1) (word_of (after (match_after h a.call.game) a.reporter a.call.kind)) else board_of h)
     ≡ board_of (if is_ok (answer (match_after h a.call.game).number o) then followed_by h (entry_of a.reporter a.call) else h))
@@ -392,7 +394,8 @@ attempts_counted attempts all =
     let end = attempts_from [] attempts (may_none MayFollow) all in
     record { legal = end.0; board = end.1; version = ap version_of end.1 ∙ (versions (accepted_of attempts) end.0).0 }
 
--- the record after one entry more
+-- if e is the last entry of a legal history, the record of its match before e accepts its event, and the record after e is that record with
+-- this event applied
 entry_after : (h : List Entry) (e : Entry) → IsLegal (followed_by h e)
     → Accepts (match_after h e.game) (length (entries_of e.game h)) e.kind × (match_after (followed_by h e) e.game ≡ after (match_after h e.game) e.reporter e.kind)
 entry_after h e legal =
@@ -404,11 +407,12 @@ entry_after h e legal =
           ∙ sym (counted (entries_of e.game h) (match_after h e.game) e.reporter (length (entries_of e.game h)) e.kind before refl may.accepted.reporter accepted).0,
     )
 
--- the same word of a match in the boards of two legal histories is of one record
+-- if a match has the same word in the boards after two legal histories, it has the same record after both
 same_record : (h k : List Entry) (game : ℕ) → IsLegal h → IsLegal k → IsMatch game → word_at (board_of h) game ≡ word_at (board_of k) game → match_after h game ≡ match_after k game
 same_record h k game a b is same = words_apart (match_after h game) (match_after k game) (match_valid game h a) (match_valid game k b) (sym (word_after h game is) ∙ (same ∙ word_after k game is))
 
--- two histories with the same word of a match before and after one entry more have the same entry
+-- if two legal histories end with entries of one match, and its word is the same before these entries, and the same after them, then the
+-- two entries are the same
 pub entry_known : EntryIsKnown
 entry_known h k e f legal_e legal_f game was is =
     let before_h = may_begin MayFollow h (e ∷ []) legal_e in
@@ -471,27 +475,27 @@ begins_all h [] = begins_same h
 begins_all h (a ∷ attempts) =
     begins_through h (after_attempt h a) _ (begins_attempt h a (refusal_of (match_after h a.call.game) a.call.expected a.call.kind) refl) (begins_all (after_attempt h a) attempts)
 
--- the entries of a match only grow
+-- attempts never lessen the entries of a match: it has at least as many after them as before
 entries_grow : (game : ℕ) (h : List Entry) (attempts : List Attempt) → length (entries_of game h) ≤ length (entries_of game (fold after_attempt h attempts))
 entries_grow game h attempts = let p = begins_all h attempts in
     begins_length _ _ (entries_of game p.0, sym (entries-append game h p.0) ∙ ap (entries_of game) p.1)
 
--- an attempt that is not refused has no refusal
+-- if the reply to an event, made from an optional refusal, says that the event is accepted, then there is no refusal
 pub no_refusal : (number : ℕ) (o : Option Refusal) → is_ok (answer number o) ≡ true → o ≡ None
 no_refusal number None ok = refl
 no_refusal number (Some r) ok = absurd (true≢false (sym ok))
 
--- an accepted event names the number of its match
+-- an event that the rules accept expects the event number of its match, which is how many entries the match has
 pub number_expected : (h : List Entry) (a : Attempt) → refusal_of (match_after h a.call.game) a.call.expected a.call.kind ≡ None → a.call.expected ≡ length (entries_of a.call.game h)
 number_expected h a none = let is = accepts (match_after h a.call.game) a.call.expected a.call.kind none in
     expects_number _ _ _ is ∙ number_of_count (entries_of a.call.game h)
 
--- an event that names another number is stale
+-- an event that expects another event number than that of its match is refused as stale
 pub is_stale : (m : MatchRecord) (expected : ℕ) (kind : Kind) → expected ≢ m.number → refusal_of m expected kind ≡ Some (Stale m.number)
 unfolding refusal_of
 is_stale m expected kind not = rw (ne_eqb expected m.number not) refl
 
--- an event that names a number below that of its match is refused as stale, and nothing is changed
+-- an event that expects another event number than its match has is refused as stale, and leaves the history and the board as they were
 stale_again : (h : List Entry) (a : Attempt) → IsLegal h → IsAttempt a → a.call.expected ≢ length (entries_of a.call.game h) → IsStaleAgain h a
 stale_again h a legal is not =
     let stale = is_stale (match_after h a.call.game) a.call.expected a.call.kind (λ e. not (e ∙ number_of_count (entries_of a.call.game h))) in
@@ -506,7 +510,7 @@ go_stale h a attempts legal all ok =
     let named = number_expected h a none in
     let next : after_attempt h a ≡ followed_by h (entry_of a.reporter a.call) = rw none refl in
     let longer = entries_grow a.call.game (after_attempt h a) attempts in
-    let one = ap (λ (l : List Entry). length (entries_of a.call.game l)) next ∙ more h (entry_of a.reporter a.call) a.call.game refl in
+    let one = ap (λ (l : List Entry). length (entries_of a.call.game l)) next ∙ one_entry_more h (entry_of a.reporter a.call) a.call.game refl in
     stale_again (fold after_attempt h (a ∷ attempts)) a (attempts_from h (a ∷ attempts) legal all).0 is (λ e. absurd (omega arith))
 
 -- an accepted attempt that is made again changes nothing in the history and the board that later attempts leave

@@ -34,15 +34,15 @@ pub enlisted_append : (xs ys : Log) → enlisted_by (xs ++ ys) ≡ enlisted_by x
 enlisted_append xs ys = ap length (flat_map-append (λ (y : Logged). enlists y.step.target) xs ys)
     ∙ length-append (flat_map (λ (y : Logged). enlists y.step.target) xs) (flat_map (λ (y : Logged). enlists y.step.target) ys)
 
--- a step at the end of a log enlists one reporter more if it enlists, and none if not
+-- a log with one step more enlists one reporter more if this step is an enlistment, and else as many as before
 pub enlisted_more : (log : Log) (x : Logged) → enlisted_by (log ++ x ∷ []) ≡ enlisted_by log + length (enlists x.step.target)
 enlisted_more log x = enlisted_append log (x ∷ []) ∙ ap (λ (l : List ℕ). enlisted_by log + length l) (append-nil (enlists x.step.target))
 
--- the history of a log begins with the history of the beginning of the log
+-- the history of a prefix of a log is a prefix of the history of the log
 pub history_on : (a b : Log) → IsPrefix a b → IsPrefix (history_of a) (history_of b)
 history_on a b p = (history_of p.0, sym (history_append a p.0) ∙ ap history_of p.1)
 
--- a log enlists at least as many reporters as its beginning
+-- a log enlists at least as many reporters as each prefix of it
 pub enlisted_on : (a b : Log) → IsPrefix a b → enlisted_by a ≤ enlisted_by b
 enlisted_on a b p = let e = ap enlisted_by (sym p.1) ∙ enlisted_append a p.0 in omega arith
 
@@ -51,11 +51,11 @@ pub taken_append : (seat : ℕ) (xs ys : Log) → taken_by seat (xs ++ ys) ≡ t
 taken_append seat xs ys = ap (map (λ (x : Logged). x.step)) (filter-append (λ (x : Logged). x.seat == seat) xs ys)
     ∙ map-append (λ (x : Logged). x.step) (filter (λ (x : Logged). x.seat == seat) xs) (filter (λ (x : Logged). x.seat == seat) ys)
 
--- the steps of a seat in a log begin with its steps in the beginning of the log
+-- the steps of a seat in a prefix of a log are a prefix of its steps in the log
 pub taken_on : (seat : ℕ) (a b : Log) → IsPrefix a b → IsPrefix (taken_by seat a) (taken_by seat b)
 taken_on seat a b p = (taken_by seat p.0, sym (taken_append seat a p.0) ∙ ap (taken_by seat) p.1)
 
--- a step is of this seat or of another
+-- in a log of one step a seat took this step if the step is of this seat (b is true), and else none
 pub one_taken : (seat : ℕ) (x : Logged) (b : Bool) → (x.seat == seat) ≡ b → taken_by seat (x ∷ []) ≡ map (λ (y : Logged). y.step) (cond b (x ∷ []) [])
 one_taken seat x b is = ap (λ (c : Bool). map (λ (y : Logged). y.step) (cond c (x ∷ []) [])) is
 
@@ -69,7 +69,8 @@ pub taken_other : (seat : ℕ) (log : Log) (x : Logged) → x.seat ≢ seat → 
 taken_other seat log x not = taken_append seat log (x ∷ [])
     ∙ (ap (λ (l : List Taken). taken_by seat log ++ l) (one_taken seat x false (ne_eqb x.seat seat not)) ∙ append-nil (taken_by seat log))
 
--- what holds of the steps of each seat, after one step more
+-- P holds of each seat and its steps in a log with the step x at its end, if it holds of x's seat and its steps before with x's added,
+-- and of each other seat and its steps before
 pub by_seat : (log : Log) (x : Logged) (P : ℕ → List Taken → Type 0) → P x.seat (taken_by x.seat log ++ x.step ∷ [])
     → ((seat : ℕ) → x.seat ≢ seat → P seat (taken_by seat log)) → (seat : ℕ) → P seat (taken_by seat (log ++ x ∷ []))
 by_seat log x P own other seat = elim (cases_eq x.seat seat) [
@@ -77,7 +78,7 @@ by_seat log x P own other seat = elim (cases_eq x.seat seat) [
   | inr not ↦ subst (P seat) (sym (taken_other seat log x not)) (other seat not)
 ]
 
--- a seat that was not there took no step
+-- a seat took no step in a log if each step there is of a lower seat
 pub taken_none : (seat : ℕ) (log : Log) → All (λ (x : Logged). x.seat < seat) log → taken_by seat log ≡ []
 taken_none seat [] all = refl
 taken_none seat (x ∷ log) all =
@@ -90,7 +91,7 @@ taken_none seat (x ∷ log) all =
 pub below_more : (n m : ℕ) (log : Log) → n ≤ m → All (λ (x : Logged). x.seat < n) log → All (λ (x : Logged). x.seat < m) log
 below_more n m log le all k d l = let h = all k d l in omega arith
 
--- a step of a seat in the log is one of its steps, and the other way round
+-- the steps of a seat in a log that begins with y are its steps in the rest, with y's step before them if y is of this seat (b is true)
 first_taken : (seat : ℕ) (y : Logged) (log : Log) (b : Bool) → (y.seat == seat) ≡ b → taken_by seat (y ∷ log) ≡ cond b (y.step ∷ taken_by seat log) (taken_by seat log)
 first_taken seat y log true is = ap (λ (c : Bool). map (λ (z : Logged). z.step) (cond c (y ∷ filter (λ (z : Logged). z.seat == seat) log) (filter (λ (z : Logged). z.seat == seat) log))) is
 first_taken seat y log false is = ap (λ (c : Bool). map (λ (z : Logged). z.step) (cond c (y ∷ filter (λ (z : Logged). z.seat == seat) log) (filter (λ (z : Logged). z.seat == seat) log))) is
@@ -127,7 +128,7 @@ of_taken seat (y ∷ log) j t at = by (of_taken seat log) (y.seat == seat) refl
 place_is : (log : Log) (k : ℕ) (x : Logged) → IsLog log → slice_get log k ≡ Some x → x.step.place ≡ k
 place_is log k x is at = let below = at_below log k x at in (is.at k x at).place.0 ∙ length-take-le k log (omega arith)
 
--- a log whose steps all stand at their places in another one begins it
+-- a log is a prefix of another one if each of its steps stands at the same place in the other
 begins_by : (a b : Log) → ((k : ℕ) (x : Logged) → slice_get a k ≡ Some x → slice_get b k ≡ Some x) → IsPrefix a b
 begins_by [] b each = (b, refl)
 begins_by (x ∷ a) [] each = absurd (cc (each 0 x refl))
@@ -136,18 +137,19 @@ begins_by (x ∷ a) (y ∷ b) each =
     let same : x ≡ y = cc (each 0 x refl) in
     (t.0, λ i. same i ∷ t.1 i)
 
--- a log in which each seat took the steps that it took in another one begins with that one
+-- a possible log is a prefix of another one if, for each seat, its steps in the one are a prefix of its steps in the other
 pub log_begins : (a b : Log) → IsLog a → IsLog b → ((seat : ℕ) → IsPrefix (taken_by seat a) (taken_by seat b)) → IsPrefix a b
 log_begins a b is_a is_b each = begins_by a b (λ k x at.
     let t = in_taken a k x at in
     let u = of_taken x.seat b t.0 x.step (at_beginning (taken_by x.seat a) (taken_by x.seat b) t.0 x.step (each x.seat) t.1) in
     subst (λ (n : ℕ). slice_get b n ≡ Some x) (sym (place_is b u.0 x is_b u.1) ∙ place_is a k x is_a at) u.1)
 
+-- if two lists, one after the other, are empty, then the first is empty
 pub nil_front : {X : Type 0} (xs ys : List X) → xs ++ ys ≡ [] → xs ≡ []
 nil_front [] ys e = refl
 nil_front (x ∷ xs) ys e = absurd cc
 
--- a prefix that has all steps of a seat, between it and the log
+-- if the prefix `low` of a log has all steps of a seat, then so has each longer prefix p
 pub between : (seat : ℕ) (low p log : Log) → IsPrefix low p → IsPrefix p log → taken_by seat low ≡ taken_by seat log → taken_by seat p ≡ taken_by seat log
 between seat low p log a b same =
     let first : taken_by seat p ≡ taken_by seat low ++ taken_by seat a.0 = ap (taken_by seat) (sym a.1) ∙ taken_append seat low a.0 in
@@ -157,7 +159,7 @@ between seat low p log a b same =
     let none = append_cancel_left (taken_by seat low) (taken_by seat a.0 ++ taken_by seat b.0) [] (all ∙ sym (append-nil (taken_by seat low))) in
     first ∙ (ap (λ (l : List Taken). taken_by seat low ++ l) (nil_front (taken_by seat a.0) (taken_by seat b.0) none) ∙ (append-nil (taken_by seat low) ∙ same))
 
--- of two beginnings the shorter is one of the longer
+-- of two prefixes of a log the shorter is a prefix of the longer
 pub shorter : (a b log : Log) → IsPrefix a log → IsPrefix b log → length a ≤ length b → IsPrefix a b
 shorter [] b log p q le = (b, refl)
 shorter (x ∷ a) [] log p q le = absurd (omega arith)
@@ -171,7 +173,7 @@ shorter (x ∷ a) (y ∷ b) (z ∷ log) p q le =
     let same : x ≡ y = head_x ∙ sym head_y in
     (t.0, λ i. same i ∷ t.1 i)
 
--- a beginning of the log that has all steps of a seat has each of them at its place
+-- if a prefix of a log, `known`, has all steps that a seat took, then each of these stands in the log at a place within the prefix
 pub knows_step : (known log : Log) (k : ℕ) (x : Logged) → IsLog log → IsPrefix known log → taken_by x.seat known ≡ taken_by x.seat log → slice_get log k ≡ Some x
     → k < length known
 knows_step known log k x is p same at =
@@ -182,7 +184,7 @@ knows_step known log k x is p same at =
     let below = at_below known u.0 x u.1 in
     omega arith
 
--- a beginning with all steps of the seat that took the last one is the whole log
+-- a prefix of a log that has all steps of the seat that took the last step of the log is the whole log
 pub knows_all : (v before : Log) (x : Logged) → IsLog (before ++ x ∷ []) → IsPrefix v (before ++ x ∷ []) → taken_by x.seat v ≡ taken_by x.seat (before ++ x ∷ [])
     → v ≡ before ++ x ∷ []
 knows_all v before x is p same =
@@ -244,7 +246,7 @@ ranked_list : (h : List Entry) (n m : ℕ) (o : Option Entry) → MayAdd h n o �
 ranked_list h n m None may low = All-nil (InRank m)
 ranked_list h n m (Some e) may low = let r = may.0.accepted.reporter.0 in let is = may.1 in All-cons (InRank m) e [] (omega arith, omega arith) (All-nil (InRank m))
 
--- where no entry is of this reporter it has none
+-- if no entry of a list is of the reporter with number n, the list of its entries by this reporter is empty
 entries_none : (n : ℕ) (xs : List Entry) → All (λ (e : Entry). e.reporter ≢ n) xs → entries_by n xs ≡ []
 entries_none n [] all = refl
 entries_none n (e ∷ xs) all =
@@ -327,7 +329,7 @@ module _ (log : Log) (r : LogFacts log) (x : Logged) where
         ];
       }
 
--- the facts on reporters, their numbers and their entries (LogFacts) hold with each legal step more
+-- if the facts on reporters, their numbers and their entries (`LogFacts`) hold of a log, they hold of it with one more legal step
 facts_next : (log : Log) → LogFacts log → (x : Logged) (t : Target) → x.step.target ≡ t → IsThere log t → MayEnlist (number_of (taken_by x.seat log)) t x.step.entry
     → MayAdd (history_of log) (number_of (taken_by x.seat log)) x.step.entry → LogFacts (log ++ x ∷ [])
 facts_next log r x (Enlists found) is there may adds = facts_more log r x found is there.0 there.1 may.0 may.1

@@ -1,5 +1,4 @@
 -- Histories: which are legal, the board after one, and the reply of a board to the next event.
--- A history is a list of entries, which are accepted events, oldest first. The fresh board is the one before any event.
 use Rattle.std.specs.Prelude.{ℕ, ◌-◌, ◌==◌, List, [], ◌∷◌, ◌++◌, map, filter, take, slice_set, if◌then◌else◌, Result}
 use Rattle.std.specs.List.{fold}
 use Rattle.std.specs.Result.{is_ok}

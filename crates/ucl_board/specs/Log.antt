@@ -96,7 +96,7 @@ number_by target number = number
 abbrev pub number_of : List Taken → ℕ
 number_of steps = fold (λ (number : ℕ) (step : Taken). number_by step.target number) 0 steps
 
--- a list of the access that a step on this target was, with its place in the log and the history's length; empty if on no match word
+-- the access that a step on this target is, as a list, with its place in the log and the history's length; empty if it is on no match word
 abbrev pub access_list : Target → ℕ → ℕ → List Access
 access_list (Match kind game found) place at = access kind game found place at ∷ []
 access_list _ place at = []
@@ -140,7 +140,8 @@ pub record IsLegalStep (log : Log) (logged : Logged) : Type 0 where
 abbrev pub HasLegalSteps : Log → Type 0
 HasLegalSteps log = EachMay IsLegalStep log
 
--- `May`, a rule on which steps may follow a log, is legal: each possible log all of whose steps it allows has only legal steps
+-- `May`, a rule on which steps may follow a log, is legal: if it allows each step of a possible log, then each of these steps is legal:
+-- it keeps the history legal, adds only an entry with the number of its own pass, and enlists only a pass that has no number
 abbrev pub IsLegalRule : (Log → Logged → Type 0) → Type 0
 IsLegalRule May = (log : Log) → IsLog log → EachMay May log → HasLegalSteps log
 

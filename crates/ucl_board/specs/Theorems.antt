@@ -68,8 +68,8 @@ EntryIsKnown = (history other : List Entry) (entry twin : Entry) → IsLegal (fo
     → word_at (board_of (followed_by history entry)) entry.game ≡ word_at (board_of (followed_by other twin)) entry.game
     → entry ≡ twin
 
--- made one after the other on a fresh board, these attempts leave the board of the history of the accepted ones, which is legal; the
--- version of the board is how many they are
+-- if these attempts are made one after the other on a fresh board, the accepted ones are a legal history, the board that is left is the
+-- one counted from this history, and its version is the length of this history
 pub record IsCounted (attempts : List Attempt) : Type 0 where
   pub legal : IsLegal (accepted_of attempts)
   pub board : fold board_after (board_of []) attempts ≡ board_of (accepted_of attempts)
@@ -91,7 +91,8 @@ AcceptedEventsGoStale = (history : List Entry) (attempt : Attempt) (since : List
     → IsLegal history → All IsAttempt (attempt ∷ since)
     → is_ok (sequential_reply history attempt.call) ≡ true → IsStaleAgain (fold after_attempt history (attempt ∷ since)) attempt
 
--- an attempt that was accepted, made again after `since` and before `rest`, leaves the history and the board that these leave without it
+-- an attempt was accepted after `history`, and `since` were made after it; making it again before the attempts `rest` changes nothing: the
+-- history and the board after `rest` are the same as without the repetition
 abbrev pub RepeatsChangeNothing : Type 0
 RepeatsChangeNothing = (history : List Entry) (attempt : Attempt) (since rest : List Attempt)
     → IsLegal history → All IsAttempt (attempt ∷ since)

@@ -49,7 +49,7 @@ pub fn added_entry_is_known()
 {}
 
 /// Whatever events are entered from the fresh board on, one after the other, the accepted ones are a legal history, the board is counted
-/// from them, and its version is how many they are.
+/// from them, and its version is how many were accepted.
 pub fn attempts_are_counted()
     ensures { AttemptsAreCounted }
 {}
@@ -59,13 +59,13 @@ pub fn accepted_events_go_stale()
     ensures { AcceptedEventsGoStale }
 {}
 
-/// An accepted event that is entered again, at any later place, leaves the board that the other events leave without it. Applied once
-/// for each repeated event, the theorem covers any number of them.
+/// If an accepted event is entered again, at any later place, the history and the board are in the end the same as without the
+/// repetition. Applied once for each repeated event, the theorem covers any number of them.
 pub fn repeated_events_change_nothing()
     ensures { RepeatsChangeNothing }
 {}
 
-/// Whatever events are entered after a legal history, the history then begins with it and is legal, and its board is the one they leave.
+/// Whatever events are entered after a legal history, they leave a legal history that begins with it, and the board of this longer history.
 pub fn boards_go_on()
     ensures { BoardsGoOn }
 {}

@@ -23,11 +23,11 @@ board-read words twelve board long same read =
     let are = read_are_words 1 words board is in
     (is, rw (long, is), record { twelve = are.0 ∙ long; each = are.1 })
 
--- if one of them is bad, that is their fault
+-- twelve words of which the one with this index is the first that is no match's have the fault `BadWord` with the index
 pub words-bad : (words twelve : List ℕ) (index : ℕ) → length words ≡ 12 → twelve ≡ words → read_words 1 twelve ≡ Err index → fault_of_words words ≡ Some (BadWord index)
 words-bad words twelve index long same bad = let is : read_words 1 words ≡ Err index = rw same at bad in rw (long, is)
 
--- if neither the number of clubs nor a slot is at fault, there are four and no slot is bad
+-- if there is no fault, neither `NotFour`, which there is unless `b`, nor that of a bad slot, then `b` is true and no slot is bad
 parts : (b : Bool) (slot : Option ℕ) → first_fault (fault_unless b NotFour ∷ option_map BadRoster slot ∷ []) ≡ None → (b ≡ true) × (slot ≡ None)
 parts true None e = (refl, refl)
 parts true (Some slot) e = absurd (grind (arith, e))
@@ -40,12 +40,12 @@ good-roster clubs roster same none =
     let four : (length clubs == 4) ≡ true = both_good.0 in
     rw same (good_four clubs (grind (arith, nat_tests, four)) both_good.1)
 
--- the coefficients of clubs that were made with these are these
+-- the clubs that are made from these coefficients have these coefficients
 pub coefficients-with : (coefficients : List ℕ) → coefficients_in (map club_with coefficients) ≡ coefficients
 coefficients-with [] = refl
 coefficients-with (coefficient ∷ coefficients) = ap (λ (later : List ℕ). coefficient ∷ later) (coefficients-with coefficients)
 
--- the table goes by the coefficients of the clubs
+-- the table of a board, by a profile, with these clubs: its rows in the form of C
 abbrev table_of : List NamedClub → Profile → List ℕ → List RowOfC
 table_of clubs profile board = map row_seen (rows_of profile board clubs)
 

@@ -4,7 +4,7 @@ use Rattle.std.proofs.lemmas.Bool.{cases_Bool}
 use Rattle.std.proofs.lemmas.Bool.Decides.{nat_tests}
 use Rattle.ucl_word.specs.Record.{is_within_limits, scheduled, suits_state, IsValid}
 use Rattle.ucl_word.specs.Layout.{IsWord, layout, held_at, record_at, state_at, word_of, HoldsRecord}
-use Rattle.ucl_word.proofs.ValidRecords.{parts, scheduled_valid, untouched as untouched_is, whole}
+use Rattle.ucl_word.proofs.ValidRecords.{parts, scheduled_valid, untouched as untouched_is, valid_by_parts}
 use Rattle.ucl_word.proofs.Words.{held_word, word_holds}
 use Rattle.ucl_word.specs.Migration.{is_word}
 use Rattle.ucl_word.proofs.FirstWords.{word_tested}
@@ -24,7 +24,7 @@ byte_low : (word : ℕ) → (record_at word).reporter ≤ 255
 unfolding record_at
 byte_low word = grind arith
 
--- what the word of a begun match holds suits its state, in play or finished
+-- if a word has the fields of a begun match, in play or finished, the record that it holds suits the state that it holds
 suited : (word code : ℕ) → held_at word layout.state ≡ code → IsOfBegunMatch word → suits_state (state_at code) (record_at word) ≡ true
 unfolding record_at
 suited word zero is h = absurd (let c = h.not_scheduled in omega arith)
@@ -32,28 +32,28 @@ suited word (suc zero) is h = let l = h.low in let u = h.high in let r = h.repor
 suited word (suc (suc zero)) is h = let l = h.low in let u = h.high in let r = h.reporter in let b = byte_low word in grind (arith, nat_tests)
 suited word (suc (suc (suc n))) is h = absurd (let k = h.known in omega arith)
 
--- a word that holds what that of a begun match does holds a valid record
+-- a word with the fields of a begun match, in play or finished, holds a valid record
 begun_valid : (word : ℕ) → IsOfBegunMatch word → IsValid (record_at word)
 unfolding record_at
-begun_valid word h = whole (record_at word) (fields_within word) (suited word (held_at word layout.state) refl h)
+begun_valid word h = valid_by_parts (record_at word) (fields_within word) (suited word (held_at word layout.state) refl h)
 
--- a word that holds what that of a begun match does is the word of a valid record
+-- a word with the fields of a begun match, in play or finished, is the packing of a valid record
 begun_word : (word : ℕ) → IsOfBegunMatch word → IsWord word
 begun_word word h =
     let valid = begun_valid word h in
     let known : held_at word layout.state < 3 = let k = h.known in omega arith in
     record { of = record_at word; valid = valid; packed = held_word word (record { tag = h.tag; state = known; valid = valid }) }
 
--- the word of the record of a match before its kick-off is `untouched`
+-- the record of a match before its kick-off is packed into the word `untouched`
 scheduled_packed : word_of scheduled ≡ untouched
 unfolding word_of
 scheduled_packed = refl
 
--- the word `untouched` is that of a valid record
+-- the word `untouched`, of a match before its kick-off, is the packing of a valid record
 untouched_word : (word : ℕ) → word ≡ untouched → IsWord word
 untouched_word word is = record { of = scheduled; valid = scheduled_valid; packed = scheduled_packed ∙ sym is }
 
--- a word that holds a valid record is that of a begun match, or that of a match before its kick-off
+-- a word that holds a valid record has the fields of a begun match, in play or finished, or is `untouched`, of a match before its kick-off
 told_by : (word code : ℕ) → held_at word layout.state ≡ code → HoldsRecord word → suits_state (state_at code) (record_at word) ≡ true → IsOfBegunMatch word ⊎ (word ≡ untouched)
 unfolding record_at
 told_by word zero is holds s = inr (sym (held_word word holds) ∙ (ap word_of (untouched_is (record_at word) (ap state_at is) holds.valid) ∙ scheduled_packed))
@@ -63,24 +63,26 @@ told_by word (suc (suc zero)) is holds s =
     inl (record { tag = holds.tag; reporter = grind (arith, nat_tests); not_scheduled = omega arith; known = omega arith; low = grind (arith, nat_tests); high = grind (arith, nat_tests) })
 told_by word (suc (suc (suc n))) is holds s = absurd (let k = holds.state in omega arith)
 
--- the word of a valid record holds what that of a begun match does, or is `untouched`
+-- the packing of a valid record has the fields of a begun match, in play or finished, or is `untouched`, of a match before its kick-off
 word_begun : (word : ℕ) → IsWord word → IsOfBegunMatch word ⊎ (word ≡ untouched)
 unfolding record_at
 word_begun word is =
     let holds = word_holds word is in
     told_by word (held_at word layout.state) refl holds (parts (record_at word) holds.valid).1
 
--- if a test holds only of words of begun matches, it or the test for the word before the kick-off hold only of words of valid records
+-- if `begun` holds only of a word with the fields of a begun match, a word of which it holds, or which is `untouched`, of a match before
+-- its kick-off, is the packing of a valid record
 pub tests_word : (word : ℕ) (begun : Bool) → (begun ≡ true → IsOfBegunMatch word) → (begun || (word == untouched)) ≡ true → IsWord word
 tests_word word true is t = begun_word word (is refl)
 tests_word word false is t = untouched_word word (eqb-true word untouched t)
 
--- if a test holds of all words of begun matches, it or the one for the word before the kick-off hold of each word of a valid record
+-- if `begun` holds of each word with the fields of a begun match, it holds of the packing of a valid record, or this is `untouched`, of a
+-- match before its kick-off
 pub word_tests : (word : ℕ) (begun : Bool) → (IsOfBegunMatch word → begun ≡ true) → IsWord word → (begun || (word == untouched)) ≡ true
 word_tests word true is w = refl
 word_tests word false is w = elim (word_begun word w) [ inl b ↦ absurd (let e = is b in cc) | inr e ↦ eq-eqb word untouched e ]
 
--- a test that holds just of the words of valid records is the test of the definitions
+-- a test that holds of a word exactly if this is the packing of a valid record is equal to `is_word`
 pub same_as_test : (word : ℕ) (found : Bool) → (found ≡ true → IsWord word) → (IsWord word → found ≡ true) → found ≡ is_word word
 same_as_test word true a b = sym ((word_tested word).1 (a refl))
 same_as_test word false a b = elim (cases_Bool (is_word word)) [ inl y ↦ absurd (let e = b ((word_tested word).0 y) in cc) | inr n ↦ sym n ]

@@ -1,7 +1,4 @@
--- What becomes of a pass of a board, or of none, in each call of C, and why a call is not done. A pass is a thread's permission on a board
--- that threads share: a reader's only reads, and a reporter's has a number, 1 to 255, under which it enters events; contracts see of it a
--- `WordPass`. To split a reader's pass is to halve its share of the permission for a second pass; to enlist a reporter, to turn such a
--- second pass into a reporter's. A status is what a call returns: 0, or the number of a fault or of a rule that refuses an event.
+-- What becomes of a pass of a board, or of none, in each call of C, and why a call is not done.
 use Rattle.std.specs.Prelude.{ℕ, ◌≡◌, ◌&&◌, nat_le, nat_lt, if◌then◌else◌, [], ◌∷◌, Option, None, Some, unwrap_or, Result, Ok, Err}
 use Rattle.atomic_table.specs.Seated.{TableId}
 use Rattle.ucl_word.specs.declared.event.EventCall.{EventCall}
@@ -53,7 +50,7 @@ abbrev pub IsEnlisted : AnyPass → AnyPass → AnyPass → Type 0
 IsEnlisted (Reader old) (Reader new) (Reporter reporter) = SplitsAndEnlists old new reporter
 IsEnlisted _ _ _ = ⊥
 
--- a reader's pass, `old` before and `new` after, was split, and the second pass, `found` in the end, found that all 255 numbers are given
+-- a reader's pass, `old` before and `new` after, was split, but the second pass, `found` afterwards, got no number: all 255 are given
 pub record SplitsForNone (old new : WordPass) : Type 0 where
   pub second : WordPass
   pub split : WordSplit old new second
@@ -71,7 +68,7 @@ IsRead (Reader old) reading (Reader new) = WordRead old reading new
 IsRead (Reporter old) reading (Reporter new) = WordRead old reading new
 IsRead _ _ _ = ⊥
 
--- this is the number of a reporter's pass, as the steps that it took on the board, `own`, tell
+-- the pass is a reporter's and this is its number, which is worked out from its own steps on the board
 abbrev pub IsNumberOf : AnyPass → ℕ → Type 0
 IsNumberOf (Reporter pass) number = number ≡ number_of pass.pass.own
 IsNumberOf _ number = ⊥
@@ -100,8 +97,8 @@ abbrev pub or_memory : Option Fault → Fault
 or_memory None = OutOfMemory
 or_memory (Some fault) = fault
 
--- this fault is why no reporter was enlisted by a pass, first before and then after: if all 255 numbers are given, the pass was split and
--- the second pass is lost; otherwise the pass is as it was, and is no reader's or memory is lacking
+-- why a pass, `old` before and `new` after, enlisted no reporter: for `FullBoard` all 255 numbers are given, and the pass was split and the
+-- second pass lost; for any other fault the pass is unchanged, since it is no reader's or memory is lacking
 abbrev pub IsNotEnlisted : Fault → AnyPass → AnyPass → Type 0
 IsNotEnlisted FullBoard (Reader old) (Reader new) = SplitsForNone old new
 IsNotEnlisted FullBoard _ _ = ⊥
@@ -138,7 +135,7 @@ abbrev pub status_of_reply : Result Accepted Refusal → ℕ
 status_of_reply (Ok accepted) = 0
 status_of_reply (Err refusal) = refusal_code refusal
 
--- what is written for a reply over what was there: how many events the match has had, if this one was accepted or named another number
+-- what a call leaves where it writes a match's event number: that number, if the event was accepted or is stale; else `before`, as it was
 abbrev pub number_after : Result Accepted Refusal → ℕ → ℕ
 number_after (Ok accepted) before = accepted.number
 number_after (Err refusal) before = unwrap_or (found_of refusal) before

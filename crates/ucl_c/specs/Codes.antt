@@ -1,5 +1,4 @@
--- The numbers by which C names states and marks, and a match in the form of C. A word is a match packed into 64 bits, and its record is what
--- the word holds. The event number of a match is how many events it has had.
+-- The numbers by which C names states and marks, and a match in the form of C.
 use Rattle.std.specs.Prelude.{ℕ, nat_lt, if◌then◌else◌, Option, None, Some}
 use Rattle.ucl_word.specs.declared.record.State.{State}
 use Rattle.ucl_word.specs.declared.record.State.TheVariants.{Scheduled, InPlay, Finished}
@@ -28,7 +27,7 @@ state_code_in_c Finished = 2
 abbrev pub expected_told : ℕ → ℕ
 expected_told expected = if nat_lt expected 65536 then expected else 65535
 
--- the word of a match, of which this was the record, after an event of this reporter and this kind; 0 if there is no such kind
+-- the word of a match after an event of this reporter and this kind, if `game` is the match unpacked before it; 0 if there is no kind
 abbrev pub word_after : MatchRecord → ℕ → Option Kind → ℕ
 word_after game reporter (Some kind) = word_of (after game reporter kind)
 word_after game reporter None = 0

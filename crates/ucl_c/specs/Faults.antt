@@ -1,7 +1,4 @@
--- Why a call of C is not done: `Option Fault` is the fault of some inputs, or none. A word is a match packed into 64 bits, of today's
--- layout of the bits or of the first; twelve are a board. A script is text with rows for four clubs and then for events. A roster is four
--- clubs, in slots 1 to 4. A profile is a set of tie-break rules. Room is what the caller has for an output. An event is stale if it names
--- an event number (how many events a match has had) that is not the match's; it has found the match's.
+-- Why a call of C is not done: `Option Fault` is the fault of some inputs, or none. Room is what the caller has for an output.
 use Rattle.std.specs.Prelude.{ℕ, ◌==◌, ◌&&◌, nat_le, nat_lt, Bool, true, false, codes, List, [], ◌∷◌, length, map, find, Option, Some, None, option_map, unwrap_or, Result, Ok, Err}
 use Rattle.std.specs.Result.{result_err}
 use Rattle.ucl_word.specs.declared.event.Kind.{Kind}
@@ -24,7 +21,7 @@ use Rattle.ucl_c.specs.declared.fault.Fault.TheVariants.{Refused, BadWord, BadRo
 use Rattle.ucl_c.specs.declared.fault.Fault.TheVariants.{NoGroup, NotTwelve, NotFour, NoRoom, NotFourRows, NoStatus, InUse, NoPass, NotAReader, NoMatch}
 use Rattle.ucl_c.specs.declared.fault.Fault.TheVariants.{NotAReporter}
 
--- the number of a fault, which a call returns, and its name; those of a rule that refuses an event are the rule's
+-- the number of a fault, which a call returns as its status, and its name; if a rule refuses an event, these are the rule's
 abbrev pub status_of : Fault → ℕ × List ℕ
 status_of (Refused refusal) = (refusal_code refusal, refusal_name refusal)
 status_of (BadWord index) = (10, codes "bad word")
@@ -52,7 +49,7 @@ status_of NotAReporter = (63, codes "not a reporter")
 abbrev pub fault_code : Fault → ℕ
 fault_code fault = (status_of fault).0
 
--- one fault for each number but those of rules
+-- every fault but the refusals of events, once each; one that tells which word, row or slot is bad tells the first
 abbrev pub faults : List Fault
 faults =
     BadWord 1 ∷ BadRow 1 ∷ BadRoster 1 ∷ OutOfMemory ∷ TooLong ∷ FullBoard ∷ NoReporter ∷ NoKind ∷ NoProfile ∷ NoGroup ∷ NotTwelve ∷ NotFour
@@ -72,12 +69,12 @@ abbrev pub status_with : Option Fault → ℕ
 status_with None = 0
 status_with (Some fault) = fault_code fault
 
--- what is left where a call writes the number that a stale event found: that number; or at any other fault or none, what was there before
+-- what a call leaves where it writes the event number of a match: that number, if the event is stale; else what was there `before`
 abbrev pub found_with : Option Fault → ℕ → ℕ
 found_with (Some (Refused refusal)) before = unwrap_or (found_of refusal) before
 found_with _ before = before
 
--- what is left where a call writes the word, row or slot that is wrong: its number; or at any other fault or none, what was there before
+-- what a call leaves where it writes which word, row or slot is bad: its number, if the fault is about one; else what was there `before`
 abbrev pub place_with : Option Fault → ℕ → ℕ
 place_with (Some (BadWord index)) before = index
 place_with (Some (BadRow row)) before = row
@@ -97,7 +94,7 @@ abbrev pub fault_unless : Bool → Fault → Option Fault
 fault_unless true fault = None
 fault_unless false fault = Some fault
 
--- this fault, if there is no value, since a code or a number stands for nothing
+-- this fault, if the option is `None`; otherwise no fault
 abbrev pub fault_if_none : {A : Type 0} → Option A → Fault → Option Fault
 fault_if_none (Some x) fault = None
 fault_if_none None fault = Some fault
@@ -118,7 +115,7 @@ fault_of_group letter = fault_unless (nat_le 65 letter && nat_le letter 72) NoGr
 abbrev pub fault_of_twelve : ℕ → Option Fault
 fault_of_twelve count = fault_unless (count == 12) NotTwelve
 
--- `NotTwelve` if these are not twelve words; otherwise `BadWord` with the first that is of neither layout, if one is
+-- `NotTwelve` if these are not twelve words; otherwise `BadWord` with the index, from 1, of the first that is no match's in either layout
 abbrev pub fault_of_words : List ℕ → Option Fault
 fault_of_words words = first_fault (fault_of_twelve (length words) ∷ option_map BadWord (result_err (read_words 1 words)) ∷ [])
 
@@ -138,7 +135,7 @@ club_with coefficient = record { name = codes "-"; coefficient = coefficient }
 abbrev pub fault_of_coefficients : List ℕ → Option Fault
 fault_of_coefficients coefficients = fault_of_clubs (map club_with coefficients)
 
--- the fault that a call returns if an input in memory has this one; `ReadFailed` cannot come there
+-- the fault that a call returns for this fault of its input; the input is in memory, so `ReadFailed` never comes
 abbrev pub of_input : InputFault → Fault
 of_input (input.BadWordAt index) = BadWord index
 of_input (input.BadRow row) = BadRow row

@@ -1,5 +1,4 @@
--- What a handle holds, what a call on it does, and why it is not done. A handle is a pointer for C: it is null, or owns a counted reference
--- to a board and a pass of it, which is a thread's permission on a board that threads share. `Nobody` stands for no pass.
+-- What a handle holds, what a call on it does, and why it is not done. `Nobody` stands for no pass.
 use Rattle.std.specs.Prelude.{◌≡◌, ◌⊎◌, Bool, true, false, Option, None, Some, Result, Err}
 use denote.RawPtr.{Ptr, null_ptr, block_ptr}
 use Rattle.ucl_c.specs.declared.board_pass.AnyPass.{AnyPass}
@@ -46,7 +45,8 @@ pub record HoldsNone (before : AnyPass) (fault : Fault) (after : AnyPass) : Type
 abbrev pub IsRefusalOn : {T : Type 0} → (PassHeld → Result T Fault → PassHeld → Type 0) → AnyPass → Fault → AnyPass → Type 0
 IsRefusalOn call before fault after = HoldsNone before fault after ⊎ IsCallOn call before (Err fault) after
 
--- this is why a pass, before and after, enlisted no reporter: a fault of the handle that is to get the reporter's pass, or else another
+-- why a pass, `before` and `after` the call, enlisted no reporter: the handle that was to get the new pass has a fault, and the pass is
+-- unchanged; or that handle has none, and the fault came in enlisting
 abbrev pub IsNotEnlistedIn : Option Fault → Fault → AnyPass → AnyPass → Type 0
 IsNotEnlistedIn (Some found) fault before after = (after ≡ before) × (fault ≡ found)
 IsNotEnlistedIn None fault before after = IsNotEnlisted fault before after

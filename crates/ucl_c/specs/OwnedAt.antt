@@ -1,4 +1,4 @@
--- What a handle, which is a pointer for C, owns: nothing if it is null, or a block of the heap.
+-- What a handle owns: nothing if it is null, or a block of the heap.
 use base.Fml.{Fml, ftrue}
 use mir.Syntax.{Ty}
 use denote.RawPtr.{Ptr, null_ptr, block_ptr}

@@ -1,6 +1,4 @@
--- What becomes of the events of a script, in the form of C. A script is text with four rows of clubs and then a row for each event; they
--- are entered in turn on a fresh board, one without events. A history is the list of the accepted events; its length is the version of the
--- board. A roster is four clubs, in slots 1 to 4; a word is a match packed into 64 bits, and twelve are a board.
+-- What becomes of the events of a script, in the form of C: they are entered in turn on a fresh board.
 use Rattle.std.specs.Prelude.{◌≡◌, ℕ, ◌+◌, ◌-◌, ◌++◌, List, [], ◌∷◌, length, map, take, drop, replicate, unwrap_or, Result, Ok, Err}
 use Rattle.ucl_word.specs.declared.event.Accepted.{Accepted}
 use Rattle.ucl_word.specs.declared.refusal.Refusal.{Refusal}

@@ -1,6 +1,4 @@
--- What words and clubs are shown as, and how that is written into the room that a caller has for it. A word is a match in 64 bits; words
--- are read as a board if each is of today's layout or the first. A profile, which has a code, is the set of tie-break rules that order its
--- table. A screen is the table as text; a line of JSON has one as the answer to a row, given by its number, that asked for it.
+-- What words and clubs are shown as, and how that is written into the room that a caller has for it.
 use Rattle.std.specs.Prelude.{◌≡◌, ◌≢◌, ◌⊎◌, ℕ, ◌+◌, ◌<◌, ◌≤◌, ◌++◌, nat_le, if◌then◌else◌, List, [], ◌∷◌, map, take, drop, length, Option, None, Some, Result, Ok, Err}
 use Rattle.ucl_board.specs.Words.{read_words, version_of}
 use Rattle.ucl_order.specs.declared.profile.Profile.{Profile}
@@ -60,17 +58,17 @@ shown_with _ _ make = []
 abbrev pub table_shown : ℕ → List ℕ → List NamedClub → List RowOfC
 table_shown code words clubs = shown_with (profile_with code) (read_words 1 words) (λ profile board. map row_seen (rows_of profile board clubs))
 
--- a board and its clubs as text, by a profile: the screen for this group, or if a row is given, the line of JSON that answers it with that
+-- the screen of a board for a group, by a profile, as text; or if the number of a row is given, as the line of JSON that answers that row
 abbrev pub text_by : Option ℕ → ℕ → List NamedClub → Profile → List ℕ → List ℕ
 text_by None group clubs profile board = screen_text profile board clubs group
 text_by (Some row) group clubs profile board = json_line (screen_value row profile board clubs group)
 
--- the screen, or the line of JSON that answers a row with it, if one is given, of the board that the words are read as, for a group, by the
--- profile with this code; no text if there is no such board or profile
+-- the screen of the board that the words are read as, for a group, as text; or if the number of a row is given, as the line of JSON that
+-- answers that row. It is empty if the words are no board or no profile has this code
 abbrev pub text_shown : Option ℕ → ℕ → ℕ → List ℕ → List NamedClub → List ℕ
 text_shown row code group words clubs = shown_with (profile_with code) (read_words 1 words) (text_by row group clubs)
 
--- how many bytes a screen has at most, or if a row is given, the line of JSON that answers it with one
+-- how many bytes a screen has at most as text; or if the number of a row is given, as the line of JSON that answers that row
 abbrev pub max_length : Option ℕ → ℕ
 max_length None = 296
 max_length (Some row) = 1423
@@ -93,8 +91,9 @@ pub record TextLeft : Type 0 where
   pub long : ℕ
   pub at : ℕ
 
--- what a call for a text returns and writes, if its inputs have this fault or none, and this would be the text, of `most` bytes at the
--- most: the text whole and 0, or a fault, and then only `at`, or for 56 `long`, may change. 23, out of memory, may come in place of any
+-- what a call for a text returns and writes, by the fault of its inputs if there is one: 0 and the whole text; or a fault's number, 56 if
+-- there is no room, with the buffer unchanged. `long` is written with 0 and 56 only, `at` only for a bad word or club. 23, out of memory,
+-- may come in place of any of these. Room for more than `most` bytes is always enough
 pub record AnswersWithText (fault : Option Fault) (text : List ℕ) (most : ℕ) (before after : TextLeft) (status : ℕ) : Type 0 where
   pub told : status ≢ 23 → status ≡ status_with (fault_with_text fault text (length before.out))
   pub placed : status ≢ 23 → after.at ≡ place_with (fault_with_text fault text (length before.out)) before.at

@@ -1,5 +1,4 @@
--- What holds of the numbers of faults, and of how long screens are. A word is a match packed into 64 bits; twelve are a board, and a screen
--- is its table as text. A fault is why a call of C is not done.
+-- What holds of the numbers of faults, and of how long screens are.
 use Rattle.std.specs.Prelude.{◌≡◌, ◌<◌, ◌≤◌, ◌^◌, ℕ, ◌++◌, List, length, Some, codes, decimal}
 use Rattle.ucl_board.specs.Words.{AreWords}
 use Rattle.ucl_order.specs.declared.profile.Profile.{Profile}

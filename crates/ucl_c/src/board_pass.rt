@@ -1,7 +1,4 @@
-//! A pass together with its board, so that no call can be given a pass of another board. A pass is a thread's permission on a board that
-//! threads share: a reader's only reads, and a reporter's has a number, under which it enters events. To split a reader's pass is to make a
-//! second one; to enlist a reporter, to split a pass and turn the second into a reporter's, with one of 255 numbers. A `Fault` is why a
-//! call is not done.
+//! A pass together with its board, so that no call can be given a pass of another board.
 
 ghost use Rattle.std.specs.Prelude.{◌≡◌, IfOk, IfErr, MatchResult, None, Some};
 ghost use Rattle.std.specs.Arc.{arc_value};
@@ -69,7 +66,7 @@ impl BoardPass {
         Ok(Box::new(alloc, BoardPass { board, pass })?)
     }
 
-    /// Puts this pass, which is of the same board, in the place of the one held.
+    /// Puts this pass, which is of the same board, in the place of the pass held here.
     fn hold(&mut self, pass: AnyPass)
         requires { IsPassOf self.old.board pass }
         ensures { self.new ≡ record { board = self.old.board; pass = pass } }

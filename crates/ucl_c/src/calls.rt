@@ -1,5 +1,4 @@
-//! Calls on a handle, which is a pointer for C to a box with a board and a pass of it (a thread's permission on the board), or null. The
-//! box is taken out, called on, and put back. A fault, which has a number, is why a function for C (see `passes`) is not done.
+//! Calls on a handle, a pointer for C to a box with a board and a pass of it, or null. The box is taken out, called on, and put back.
 
 ghost use Rattle.std.specs.Prelude.{◌≡◌, true, false, IfOk, IfErr, MatchResult, Ok, None};
 ghost use Rattle.std.specs.Fn.{FnOnceReturnsAtMut};

@@ -1,7 +1,4 @@
-//! Calls of C on one match. Its word is the match packed into 64 bits, and its record is what the word holds: the event number, which is
-//! how many events it has had, the state, the goals, the cards and the last reporter. Words of the first layout of these bits are read as
-//! words of today's. An event has a kind (kick-off, goal, card ..), given by a code, and the expected number, which is the event number
-//! that its reporter saw last; if that is not the match's, the event is stale and is refused.
+//! Calls of C on one match, given by its word. Words of the first layout are read as words of today's.
 
 ghost use Rattle.std.specs.Prelude.{◌≡◌, ◌≢◌, ◌↔◌, ℕ, Some, None, IsSome, IfSome};
 ghost use Rattle.ucl_word.specs.Record.{IsReporter};
@@ -87,7 +84,8 @@ pub extern "C" fn uclboard_next_word(
     }
 }
 
-/// Writes to `read` the word in today's layout for one of today's or the first, and returns 0; or returns 10 and writes nothing.
+/// Writes to `read` the word of a match in today's layout, if `word` is one in today's or the first layout, and returns 0. If it is one in
+/// neither, returns 10 and writes nothing.
 #[unsafe(no_mangle)]
 pub extern "C" fn uclboard_read_word(word: u64, read: &mut u64) -> u32
     ensures done { (new : ℕ) → read_word word ≡ Some new → (result ≡ 0) × (read.new ≡ new) }

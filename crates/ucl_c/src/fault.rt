@@ -1,7 +1,4 @@
-//! Why a call of C is not done: it returns a status, 0 or the number of a fault. A word is a match in 64 bits; a script is text with a row
-//! for each of four clubs and then each event; a roster is four clubs, in slots 1 to 4; a profile is a set of tie-break rules. A handle is
-//! a pointer that owns a pass, a reader's or a reporter's permission on a board that threads share. A stale event does not name the event
-//! number of its match, which is how many events that has had; the match's is the number found.
+//! Why a call of C is not done: it returns a status, 0 or the number of a fault.
 
 ghost use Rattle.std.specs.Prelude.{◌≡◌, Some, unwrap_or};
 ghost use Rattle.ucl_word.specs.Names.{found_of, refusal_code};
@@ -171,6 +168,7 @@ impl From<InputFault> for Fault {
 impl From<AllocError> for Fault {
     ghost from_gives = { λ _ fault. fault ≡ OutOfMemory };
 
+    /// Returns `OutOfMemory`, the fault of a call for which there is no memory.
     fn from(_error: AllocError) -> Fault {
         Fault::OutOfMemory
     }
@@ -179,6 +177,7 @@ impl From<AllocError> for Fault {
 impl<T: Drop> From<AllocFailed<T>> for Fault {
     ghost from_gives = { λ _ fault. fault ≡ OutOfMemory };
 
+    /// Returns `OutOfMemory`, the fault of a call for which there is no memory.
     fn from(_error: AllocFailed<T>) -> Fault {
         Fault::OutOfMemory
     }
@@ -187,6 +186,7 @@ impl<T: Drop> From<AllocFailed<T>> for Fault {
 impl From<ucl_word::OutOfMemory> for Fault {
     ghost from_gives = { λ _ fault. fault ≡ OutOfMemory };
 
+    /// Returns `OutOfMemory`, the fault of a call for which there is no memory.
     fn from(_error: ucl_word::OutOfMemory) -> Fault {
         Fault::OutOfMemory
     }

@@ -1,6 +1,4 @@
-//! Boards, rosters, letters of groups and profiles, from the numbers, words and clubs that C hands over. A word is a match packed into 64
-//! bits, and twelve are a board; a roster is the four clubs of a group, in slots 1 to 4; a profile is the set of tie-break rules by which
-//! its table is ordered. What C hands over wrong is answered by a `Fault`.
+//! Boards, rosters, letters of groups and profiles, from the numbers, words and clubs that C hands over.
 
 ghost use Rattle.std.specs.Prelude.{◌≡◌, map, None, Some, Ok, IfOk, IfErr};
 ghost use Rattle.ucl_board.specs.Words.{AreWords, read_words};

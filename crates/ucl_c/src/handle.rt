@@ -1,4 +1,4 @@
-//! A handle for C, which owns a pass (a thread's permission on a shared board) and a counted reference to the board, or nothing.
+//! A handle for C, which owns a pass and a counted reference to its board, or nothing.
 
 ghost use Rattle.ucl_c.specs.declared.board_pass.BoardPass.{BoardPass};
 

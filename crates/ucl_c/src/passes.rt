@@ -1,6 +1,4 @@
-//! The calls of C on a board that threads share. A pass is a thread's permission on the board: a reader's only reads, and a reporter's has
-//! a number, under which it enters events. A handle is a pointer for C that holds a pass, or is null. A call returns a status: 0, or the
-//! number of a fault. To split a reader's pass is to make a second one; to enlist a reporter, to turn such a second pass into a reporter's.
+//! The calls of C on a board that threads share, by handles.
 
 ghost use Rattle.std.specs.Prelude.{◌≡◌, ◌≢◌, ◌↔◌, IsSome, IfSome, [], ◌∷◌, None, Some, length};
 ghost use Rattle.ucl_board.specs.Fixtures.{IsMatch};

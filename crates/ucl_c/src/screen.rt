@@ -1,6 +1,5 @@
-//! Twelve words, each a match in 64 bits, and four clubs as a screen, which is the table as text. A row, of the input of `ucl_live`, asks
-//! for a screen, and is answered by a line of JSON with its number. A profile is the set of tie-break rules. A call returns 0 or the number
-//! of a fault, and writes the place of a bad word, or the slot of a bad club, to `at`.
+//! Twelve words and four clubs as a screen, which is text, or the line of JSON that answers the row of `ucl_live` that asks for it. A call
+//! writes the place of a bad word, or the slot of a bad club, to `at`.
 
 ghost use Rattle.std.specs.Prelude.{◌≡◌, ◌≢◌, ◌<◌, ◌≤◌, ◌^◌, length, None, Some, IfOk, IfErr, IfSome, string_bytes};
 ghost use Rattle.ucl_c.specs.declared.fault.Fault.TheVariants.{OutOfMemory};

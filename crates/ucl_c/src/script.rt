@@ -1,6 +1,4 @@
-//! A script that is played: its events are entered in turn on a board that has none. A script is rows of text, four of clubs and then one
-//! for each event; it is called a night, as two reporters may enter one. A word is a match packed into 64 bits, and twelve are a board. The
-//! version of a board is how many events were entered, and a roster is its four clubs. Slots, 1 to 4, are the places of clubs in it.
+//! A script that is played: its events are entered in turn on a fresh board.
 
 ghost use Rattle.std.specs.Prelude.{◌≡◌, ◌≢◌, ◌≤◌, ◌⊎◌, List, length};
 ghost use Rattle.ucl_board.specs.Fixtures.{IsSlot};

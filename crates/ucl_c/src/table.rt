@@ -1,6 +1,5 @@
-//! The version and the table of a board that is given as its twelve words, each a match in 64 bits. Clubs are known by their slots, 1 to 4,
-//! and ranked by their coefficients if nothing else tells them apart; a profile is the set of tie-break rules. A call returns 0 or the
-//! number of a fault, and writes the place of a bad word, or the slot of a bad coefficient, to `at`.
+//! The version and the table of a board that is given as its twelve words. A call writes the place of a bad word, or the slot of a bad
+//! coefficient, to `at`.
 
 ghost use Rattle.std.specs.Prelude.{◌≡◌, ◌≢◌, List, length};
 ghost use Rattle.ucl_order.specs.Roster.{NamedClub, coefficients_in};

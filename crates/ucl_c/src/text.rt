@@ -1,5 +1,4 @@
-//! Texts, written into the buffer of a caller: a text is handed over with a zero behind it, and with the number of its bytes. A status is
-//! the number that a call of C returns: 0, or that of a fault or of a rule that refuses an event.
+//! Texts, written into the buffer of a caller: a text is handed over with a zero behind it, and with the number of its bytes.
 
 ghost use Rattle.std.specs.Prelude.{◌≡◌, List, ℕ, None, Some, MatchOption};
 ghost use Rattle.ucl_c.specs.Faults.{name_of_status};

@@ -1,5 +1,4 @@
-//! Theorems on the numbers of faults, and on how long screens are. The functions are there for their contracts only.
-//! A word is a match packed into 64 bits, twelve are a board, and a screen is its table as text. A fault is why a call of C is not done.
+//! Theorems on the numbers of faults, and on how long screens are. The functions do nothing: each is there for its contract.
 
 ghost use Rattle.ucl_c.specs.Theorems.{FaultsAreWrittenByNumber, ScreensAreShort};
 

@@ -1,5 +1,5 @@
-//! Whether a word, 64 bits, holds a valid match, by its bits: 12 from bit 0 on are the event number, which is how many events the match has
-//! had, 2 the state, 8 from bit 48 on the number of the last reporter, and the top 8 the tag of today's layout.
+//! Whether a word holds a valid match, by its bits: 12 from bit 0 on are the event number, 2 the state, 8 from bit 48 on the number of the
+//! last reporter, and the top 8 the tag of today's layout.
 
 ghost use Rattle.std.specs.Prelude.{◌≡◌, ◌<◌, ◌↔◌, IsTrue};
 ghost use Rattle.ucl_word.specs.Layout.{IsWord, bits_at};
@@ -32,7 +32,7 @@ fn has_begun(word: u64) -> bool
         && number <= 4093 + state
 }
 
-/// Returns whether a word is that of a valid match, without unpacking it, as [`unpack`](ucl_word::unpack) does.
+/// Returns whether a word is that of a valid match, by its bits, without the unpacking that [`unpack`](ucl_word::unpack) does.
 pub fn is_word(word: u64) -> bool
     ensures word { IsTrue result ↔ IsWord word }
     ensures test { result ≡ is_word word }

@@ -11,7 +11,7 @@ IsInRange Feed = ⊤
 IsInRange (Show group profile) = IsGroup group
 IsInRange (Night group readings profile) = IsGroup group × (readings ≤ 1000)
 
--- what a function answers for parsed arguments: what was found, if something was, and else a fault
+-- a function returns `Ok` with what was found in the parsed arguments, or a fault if nothing was found
 abbrev pub ReadsJust : {T : Type 0} → Option T → Result T LineFault → Type 0
 ReadsJust (Some read) (Ok answer) = answer ≡ read
 ReadsJust (Some read) (Err fault) = ⊥

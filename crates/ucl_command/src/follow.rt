@@ -1,4 +1,4 @@
-//! The arguments of `ucl_follow`, which reads answers of `ucl_live` in JSON and shows each newer screen: a group's table as it stands.
+//! The arguments of `ucl_follow`, which reads answers of `ucl_live` in JSON and shows each newer screen.
 
 use crate::fault::{LineFault, matches_from, read};
 use crate::help::{FORMAT, follow as help};

@@ -1,4 +1,4 @@
-//! The arguments of `ucl_live`, which answers rows of events through an evening. A screen is the table of the group as it stands.
+//! The arguments of `ucl_live`, which answers rows of events through an evening.
 
 ghost use Rattle.std.specs.Prelude.{◌≡◌, true};
 ghost use Rattle.ucl_command.specs.Groups.{may_be_asked};

@@ -1,5 +1,4 @@
-//! The arguments of `ucl_night`. A script is an input of clubs and events; a sheet one of clubs and words, which are matches in 64 bits
-//! each; a screen is the table of the group as it stands; a reading is a snapshot of the board.
+//! The arguments of `ucl_night`.
 
 ghost use Rattle.std.specs.Prelude.{IfOk, IfSome};
 ghost use Rattle.ucl_command.specs.Arguments.{IsInRange};
@@ -36,27 +35,39 @@ pub enum Line {
     },
 }
 
-/// Creates the command by which `clap` parses the words of `ucl_night`, with the subcommands `feed`, `show` and `night`.
-fn command<'a>(alloc: Global) -> Result<Command<'a>, AllocError> {
-    let feed = Command::new(alloc, "feed")
+/// Creates the subcommand `feed`.
+fn feed_command<'a>(alloc: Global) -> Command<'a> {
+    Command::new(alloc, "feed")
         .about(help::FEED)
-        .after_help(help::FEED_MORE);
-    let show = Command::new(alloc, "show")
+        .after_help(help::FEED_MORE)
+}
+
+/// Creates the subcommand `show`.
+fn show_command<'a>(alloc: Global) -> Result<Command<'a>, AllocError> {
+    Command::new(alloc, "show")
         .about(help::SHOW)
         .after_help(help::SHOW_MORE)
         .arg(group_option(alloc, GROUP).default_value("A"))?
-        .arg(order_option(alloc, ORDER).default_value(Profile::Uefa.name()))?;
-    let night = Command::new(alloc, "night")
+        .arg(order_option(alloc, ORDER).default_value(Profile::Uefa.name()))
+}
+
+/// Creates the subcommand `night`.
+fn night_command<'a>(alloc: Global) -> Result<Command<'a>, AllocError> {
+    Command::new(alloc, "night")
         .about(help::NIGHT)
         .after_help(help::NIGHT_MORE)
         .arg(group_option(alloc, GROUP).default_value("A"))?
         .arg(readings_option(alloc))?
-        .arg(order_option(alloc, ORDER).default_value(Profile::Uefa.name()))?;
+        .arg(order_option(alloc, ORDER).default_value(Profile::Uefa.name()))
+}
+
+/// Creates the command by which `clap` parses the words of `ucl_night`, with its subcommands.
+fn command<'a>(alloc: Global) -> Result<Command<'a>, AllocError> {
     program(alloc, "ucl_night", help::PROGRAM, help::PROGRAM_MORE)
         .subcommand_required(true)
-        .subcommand(feed)?
-        .subcommand(show)?
-        .subcommand(night)
+        .subcommand(feed_command(alloc))?
+        .subcommand(show_command(alloc)?)?
+        .subcommand(night_command(alloc)?)
 }
 
 /// Returns the subcommand that `clap` has parsed, with its options, or `None` if there is none or an option is not in range.

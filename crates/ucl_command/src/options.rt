@@ -1,5 +1,4 @@
-//! The options that programs share, each once, and what their values name. `says` is the help of an option; a screen is a group's table as
-//! it stands; a reading is a snapshot of its board, which a reader thread takes; the order is the tie-break order of the clubs (profile).
+//! The options that programs share, each once, and what their values name. `says` is the help of an option.
 
 ghost use Rattle.std.specs.Prelude.{◌≡◌, ◌≤◌, true, IfSome};
 ghost use Rattle.ucl_screen.specs.Screen.{IsGroup};

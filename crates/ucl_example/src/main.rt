@@ -26,7 +26,7 @@ const GROUP: u8 = b'A';
 /// How many milliseconds the screen sleeps between two readings.
 const PAUSE: u64 = 20;
 
-/// The clubs that a file names.
+/// The roster of the four club rows of a file.
 fn clubs_in(rt: &HostRuntime, path: &str) -> anyhow::Result<Roster> {
     let rows = fs::read(rt, path)?;
     let night = read_night(rt.alloc(), &mut FromRead::new(rows.as_slice()));
@@ -43,7 +43,7 @@ fn call_in(row: &str) -> Option<EventCall> {
     call_of_fields(game.as_bytes(), expected.as_bytes(), kind.as_bytes())
 }
 
-/// Enters the rows of a text, in their order.
+/// Enters the event rows of a text, in order. A row that is wrong or refused is told on standard error, and passed over.
 fn enter(
     rt: &HostRuntime,
     board: &WordBoard,
@@ -92,11 +92,12 @@ fn watch<R: Wait + Clock + Eprint>(
     unreachable!()
 }
 
-/// The table of a reading.
+/// The table of a reading, as the text of a screen.
 fn table(alloc: Global, reading: &Reading, roster: &Roster) -> anyhow::Result<String> {
     Ok(screen(alloc, &reading.board, roster, GROUP, Profile::Uefa)?)
 }
 
+/// Has two threads enter the rows of two files while a third shows the table whenever it has changed, and prints the last table.
 fn main(rt: HostRuntime) -> anyhow::Result<()> {
     let words = env::args(&rt)?.collect::<Vec<String>>(rt.alloc())?;
     let [_, clubs, north_rows, south_rows] = words.as_slice() else {

@@ -3,7 +3,7 @@
 use std::alloc::Global;
 use ucl_screen::{FromRead, InputFault, read_night, read_words};
 
-/// Reads each beginning of the input as a script and as a sheet, and tells how many there are.
+/// Reads each proper prefix of the input as a script and as a sheet, fails if one finds no memory, and prints how many there are.
 pub fn run<R: Print>(rt: &R, alloc: Global, input: &[u8]) -> anyhow::Result<()> {
     for length in 0..input.len() {
         let script = read_night(alloc, &mut FromRead::new(&input[..length])).err();

@@ -15,7 +15,7 @@ use ucl_screen::{Night, NightEvent, night_of_bytes, screen};
 use ucl_word::{EventCall, Kind, MatchNo, ReporterNo};
 use ucl_words::WordBoard;
 
-/// The letter of a group.
+/// The letter of the group with this index, from 0 (`A`) to 7 (`H`) and then from `A` again.
 fn letter(group: u8) -> u8
     ensures { IsGroup result }
 {
@@ -64,6 +64,7 @@ struct Watch<'n, R> {
 }
 
 impl<'n, R: Wait + Sync> Watch<'n, R> {
+    /// A gate that watches a night of this script, group and number of readings for each reader. It has no list of turns yet.
     fn new(rt: &'n R, alloc: Global, night: &'n Night, group: u8, readings: u32) -> Watch<'n, R> {
         let mut most = [0, 0, readings, readings];
         for event in &night.events {
@@ -89,8 +90,8 @@ impl<'n, R: Wait + Sync> Watch<'n, R> {
         }
     }
 
-    /// Makes the list of turns of a night on this board, and returns the version at its end: the rows come in the order of the script, and
-    /// readings evenly among them, of worker 3 before a row and of worker 4 after it.
+    /// Lists the turns in which the gate lets calls of a night on this board through, and returns the version after them. Rows come in
+    /// script order, and readings evenly among them: those of worker 3 before a row, and those of worker 4 after it.
     fn hold(&mut self, mut board: Board) -> Result<u16, AllocError> {
         let (rows, readings) = (self.night.events.len(), self.most[2] as usize);
         let due = |row: usize| {
@@ -112,7 +113,7 @@ impl<'n, R: Wait + Sync> Watch<'n, R> {
         Ok(board.version())
     }
 
-    /// Whether all was right, each worker has come so often, and each reader has shown as many screens.
+    /// Whether the gate has seen nothing wrong, so many calls of each worker, and as many screens as calls of each reader.
     fn has_seen(&self, calls: [u32; 4]) -> bool {
         let seen = self.seen.lock(self.rt);
         let screens = seen.workers.map(|own| own.screens);
@@ -120,7 +121,7 @@ impl<'n, R: Wait + Sync> Watch<'n, R> {
         !seen.is_wrong && is_each && screens == [0, 0, calls[2], calls[3]]
     }
 
-    /// Whether these are the screens that the readers have shown last.
+    /// Whether these screens have the versions that the two readers have shown last.
     fn are_last(&self, last: &[Option<String>; 2]) -> bool {
         let shown = self.seen.lock(self.rt).workers;
         let version = |text: &Option<String>| text.as_ref()?.as_str().get(9..14)?.parse().ok();
@@ -129,7 +130,7 @@ impl<'n, R: Wait + Sync> Watch<'n, R> {
 }
 
 impl<R> Watch<'_, R> {
-    /// Whether a worker has to wait for its turn.
+    /// Whether a worker's call has to wait for its turn, or, if it is its first, for all workers to come; never once anything was wrong.
     fn holds(&self, seen: &Seen, worker: u8, call: u32) -> bool {
         let mut pairs = seen.workers.iter().zip(&self.most);
         let have_all_come = pairs.all(|(worker, most)| *most == 0 || worker.calls > 0);
@@ -140,7 +141,8 @@ impl<R> Watch<'_, R> {
 }
 
 impl<R: Wait + Sync> Gate for Watch<'_, R> {
-    /// The last row of a reporter changes nothing, so its turn is over at once; any other row's is when the reporter comes again.
+    /// Counts a worker's call, and holds it until its turn. A reporter's turn is over when the reporter comes again, or, for its last row,
+    /// which is always refused, at once.
     fn come(&self, worker: u8, call: u32) {
         let at = usize::from(worker).wrapping_sub(1);
         let is_reporter = worker < 3;
@@ -162,6 +164,7 @@ impl<R: Wait + Sync> Gate for Watch<'_, R> {
         self.moved.notify_all();
     }
 
+    /// Counts a reader's screen, and notes as wrong one that is not the screen of its reading, or that is out of turn.
     fn shown(&self, worker: u8, reading: &Reading, text: &str) {
         let roster = &self.night.roster;
         let wanted = screen(self.alloc, &reading.board, roster, letter(self.group), Uefa);
@@ -191,7 +194,44 @@ struct Case {
     is_held: bool,
 }
 
-/// Whether a night ends as it has to, and what a pass reads afterwards that was split off before, and which number it gets.
+/// Enlists the other reporters of this case, of whom the first kicks off match 12 if there are strangers. Returns the board of what it entered.
+fn with_others<B: LiveBoard, R: Wait>(
+    rt: &R,
+    board: &B,
+    pass: &mut B::ReaderPass,
+    case: &Case,
+) -> Board
+    requires { B.is_reader board.now pass.old }
+    ensures { B.is_reader board.now pass.new }
+{
+    let mut alone = Board::fresh();
+    for other in 0..case.others {
+        let part = board.split(rt, pass);
+        if let (Ok(mut reporter), Some(call)) = (board.enlist(rt, part), kick_off()) {
+            if case.strangers && other == 0 {
+                let _reply = board.report(rt, &mut reporter, &call);
+                let _reply = alone.report(B::number_of(&reporter), &call);
+            }
+        }
+    }
+    alone
+}
+
+/// Returns how a night of this case has to end: its fault, if any; the number that a pass that is enlisted after it gets; and whether it begins. If
+/// it finds strangers, it tells this version.
+fn wanted(case: &Case, version: u16) -> (Option<RunFault>, Option<u8>, bool) {
+    let (fault, enlisted, is_begun) = match case.row {
+        Some(row) => (Some(RunFault::NotOnDuty { row }), Some(1), false),
+        None if case.others > 253 => (Some(RunFault::TooManyReporters), None, false),
+        None if case.strangers => (Some(RunFault::Strangers { version }), Some(3), true),
+        None => (None, Some(3), true),
+    };
+    let number = enlisted.and_then(|it| case.others.checked_add(it));
+    (fault, number, is_begun)
+}
+
+/// Holds a night of this case, and returns whether it ends as it has to, whether a pass that was split off before reads the version that it
+/// has to afterwards, and whether enlisting that pass gives the right number.
 fn is_right<B: LiveBoard, R: Threads + Wait + Sync>(
     rt: &R,
     alloc: Global,
@@ -202,16 +242,7 @@ fn is_right<B: LiveBoard, R: Threads + Wait + Sync>(
 ) -> Result<bool, AllocError>
     requires { B.is_reader board.now pass }
 {
-    let mut alone = Board::fresh();
-    for other in 0..case.others {
-        let part = board.split(rt, &mut pass);
-        if let (Ok(mut reporter), Some(call)) = (board.enlist(rt, part), kick_off()) {
-            if case.strangers && other == 0 {
-                let _reply = board.report(rt, &mut reporter, &call);
-                let _reply = alone.report(B::number_of(&reporter), &call);
-            }
-        }
-    }
+    let alone = with_others(rt, board, &mut pass, &case);
     let before = alone.version();
     let held = if case.is_held {
         Some(watch.hold(alone)?)
@@ -244,13 +275,8 @@ fn is_right<B: LiveBoard, R: Threads + Wait + Sync>(
         }
         Err(fault) => (Some(fault), true),
     };
-    let (wanted, enlisted, is_begun) = match case.row {
-        Some(row) => (Some(RunFault::NotOnDuty { row }), Some(1), false),
-        None if case.others > 253 => (Some(RunFault::TooManyReporters), None, false),
-        None if case.strangers => (Some(RunFault::Strangers { version }), Some(3), true),
-        None => (None, Some(3), true),
-    };
-    let is_told = fault == wanted && number == enlisted.and_then(|it| case.others.checked_add(it));
+    let (wanted_fault, wanted_number, is_begun) = wanted(&case, version);
+    let is_told = fault == wanted_fault && number == wanted_number;
     let is_left = if is_begun {
         held.is_none_or(|held| held == version)
     } else {
@@ -260,7 +286,7 @@ fn is_right<B: LiveBoard, R: Threads + Wait + Sync>(
     Ok(is_told && is_numbered && is_left && is_seen)
 }
 
-/// The same on a new board.
+/// Opens a cell board or a word board, holds a night of this case on it, and returns whether all of it was right.
 fn is_right_on<R: Threads + Wait + Sync>(
     rt: &R,
     alloc: Global,
@@ -277,7 +303,7 @@ fn is_right_on<R: Threads + Wait + Sync>(
     }
 }
 
-/// Random rows of reporters 1 and 2, most of which the rules take.
+/// Random rows of reporters 1 and 2, most of which the rules accept. The last row of each reporter is always refused.
 fn random_rows(alloc: Global, random: &mut Random) -> Result<Vec<NightEvent>, AllocError> {
     let (mut board, mut rows) = (Board::fresh(), Vec::new(alloc));
     let more = if random.below(32) == 0 { 50 } else { 1 };
@@ -307,7 +333,7 @@ fn random_rows(alloc: Global, random: &mut Random) -> Result<Vec<NightEvent>, Al
     Ok(rows)
 }
 
-/// Adds a row of each reporter that is refused, since no match has had so many events.
+/// Adds a row of each of reporters 1 and 2 that is refused as stale, since it expects an event number that no match reaches.
 fn end_with_stale(rows: &mut Vec<NightEvent>) -> Result<(), AllocError> {
     for reporter in [1, 2].into_iter().filter_map(ReporterNo::new) {
         if let Some(mut call) = kick_off() {
@@ -318,15 +344,64 @@ fn end_with_stale(rows: &mut Vec<NightEvent>) -> Result<(), AllocError> {
     Ok(())
 }
 
-/// Makes a random row one of a reporter who is not on duty, and tells its number.
+/// Gives a random row to a reporter other than 1 and 2, and returns the number of that row in its script; nothing if there are no rows.
 fn off_duty(rows: &mut [NightEvent], random: &mut Random) -> Option<usize> {
     let at = usize::from(random.below(u8::try_from(rows.len()).unwrap_or(u8::MAX)));
     rows.get_mut(at)?.reporter = ReporterNo::new(random.below(253).saturating_add(3))?;
     at.checked_add(5)
 }
 
-/// Runs the script on each board, with readings from its first row to the last; then a night of each group and each number of readings up to the
-/// most, on either board: with nothing against it, with a stranger, with a row of nobody on duty, and with one of the other sets of causes.
+/// Holds a night of the script on each kind of board, in turns. Fails if one ends otherwise than it has to.
+fn script_nights<R: Threads + Wait + Sync>(
+    rt: &R,
+    alloc: Global,
+    night: &Night,
+    readings: u32,
+) -> anyhow::Result<()> {
+    let case = Case {
+        others: 0,
+        strangers: false,
+        row: None,
+        is_held: true,
+    };
+    for in_cell in [false, true] {
+        let mut watch = Watch::new(rt, alloc, night, 0, readings);
+        if !is_right_on(rt, alloc, in_cell, &mut watch, case)? {
+            anyhow::bail!("the night of the script, in a cell {in_cell}");
+        }
+    }
+    Ok(())
+}
+
+/// The case of random night `at`, whose rows may be changed for it: without a cause to fail, with strangers, with a row that is not on duty,
+/// or with more causes.
+fn case_of(random: &mut Random, rows: &mut [NightEvent], at: u32) -> Case {
+    let causes = match at % 4 {
+        0 => 0,
+        1 => 1,
+        2 => 2,
+        _ => random.below(5).saturating_add(3),
+    };
+    let most = if random.below(64) == 0 { 254 } else { 4 };
+    Case {
+        others: if causes & 4 == 0 {
+            random.below(most).max(causes & 1)
+        } else {
+            random.below(2).saturating_add(254)
+        },
+        strangers: causes & 1 != 0,
+        row: if causes & 2 == 0 {
+            None
+        } else {
+            off_duty(rows, random)
+        },
+        is_held: at < 256 || random.below(64) == 0,
+    }
+}
+
+/// Holds a night of the script on each kind of board; then nights of random rows, of each group and each number of readings up to `most`:
+/// with no cause to fail, with an event of a third reporter, with a row of a reporter other than 1 and 2, and with another set of causes,
+/// such as that no two numbers of reporters are left. Fails if one ends otherwise than it has to.
 pub fn run<R: Print + Threads + Wait + Sync>(
     rt: &R,
     alloc: Global,
@@ -338,42 +413,11 @@ pub fn run<R: Print + Threads + Wait + Sync>(
     let mut night = night_of_bytes(alloc, input)?;
     end_with_stale(&mut night.events)?;
     let readings = u32::try_from(night.events.len())? / 16 + u32::from(random.below(255));
-    for in_cell in [false, true] {
-        let case = Case {
-            others: 0,
-            strangers: false,
-            row: None,
-            is_held: true,
-        };
-        let mut watch = Watch::new(rt, alloc, &night, 0, readings);
-        if !is_right_on(rt, alloc, in_cell, &mut watch, case)? {
-            anyhow::bail!("the night of the script, in a cell {in_cell}");
-        }
-    }
+    script_nights(rt, alloc, &night, readings)?;
     for at in 0..most.saturating_add(1).saturating_mul(32) {
         let (readings, group) = (at / 32, (at / 4 % 8) as u8);
-        let causes = match at % 4 {
-            0 => 0,
-            1 => 1,
-            2 => 2,
-            _ => random.below(5).saturating_add(3),
-        };
         night.events = random_rows(alloc, &mut random)?;
-        let most = if random.below(64) == 0 { 254 } else { 4 };
-        let case = Case {
-            others: if causes & 4 == 0 {
-                random.below(most).max(causes & 1)
-            } else {
-                random.below(2).saturating_add(254)
-            },
-            strangers: causes & 1 != 0,
-            row: if causes & 2 == 0 {
-                None
-            } else {
-                off_duty(&mut night.events, &mut random)
-            },
-            is_held: readings < 8 || random.below(64) == 0,
-        };
+        let case = case_of(&mut random, &mut night.events, at);
         let mut watch = Watch::new(rt, alloc, &night, group, readings);
         if !is_right_on(rt, alloc, random.below(2) == 0, &mut watch, case)? {
             anyhow::bail!("group {group}, {readings} readings, {case:?}");

@@ -25,14 +25,15 @@ const BEGINS: usize = 7919;
 
 const ENDS: usize = 7907;
 
-/// Asks for so many bytes.
+/// Asks for an unusual number of bytes, which tells what stands before `malloc` that a call begins or has ended.
 fn mark(alloc: Global, size: usize) -> Result<(), AllocError> {
     let mut block = Vec::with_capacity(alloc, size)?;
     block.push(0u8)?;
     Ok(())
 }
 
-/// Tells the fault of the first of two calls; whether what it has left or given is as it has to be; and a text of what the second gave.
+/// Prints the outcome of a call that is made twice: the fault of the first, if any; whether what that left or gave is as it has to be
+/// (`is_kept`); and `text`, what the second gave.
 fn tell<E: Debug + Drop, R: Print>(
     rt: &R,
     first: Option<E>,
@@ -45,6 +46,7 @@ fn tell<E: Debug + Drop, R: Print>(
     Ok(())
 }
 
+/// Makes the screen of the script in the input twice, and prints both outcomes. The first call may be refused memory.
 fn screens<R: Print>(rt: &R, alloc: Global, input: &[u8]) -> anyhow::Result<()> {
     let night = night_of_bytes(alloc, input)?;
     let mut board = Board::fresh();
@@ -62,6 +64,7 @@ fn screens<R: Print>(rt: &R, alloc: Global, input: &[u8]) -> anyhow::Result<()> 
     tell(rt, first.err(), is_kept, text.as_str())
 }
 
+/// Reads the input as a script twice, and prints both outcomes. The first call may be refused memory.
 fn scripts<R: Print>(rt: &R, alloc: Global, input: &[u8]) -> anyhow::Result<()> {
     mark(alloc, BEGINS)?;
     let first = read_night(alloc, &mut FromRead::new(input));
@@ -75,6 +78,7 @@ fn scripts<R: Print>(rt: &R, alloc: Global, input: &[u8]) -> anyhow::Result<()> 
     tell(rt, first.err(), is_kept, text.as_str())
 }
 
+/// Reads the input as a sheet twice, and prints both outcomes. The first call may be refused memory.
 fn sheets<R: Print>(rt: &R, alloc: Global, input: &[u8]) -> anyhow::Result<()> {
     mark(alloc, BEGINS)?;
     let first = read_words(alloc, &mut FromRead::new(input));
@@ -88,7 +92,7 @@ fn sheets<R: Print>(rt: &R, alloc: Global, input: &[u8]) -> anyhow::Result<()> {
     tell(rt, first.err(), is_kept, text.as_str())
 }
 
-/// The words of a line of the input, one after the other.
+/// Reads the words of the input as a command line of `ucl_night` twice, and prints both outcomes. The first call may be refused memory.
 fn lines<R: Print>(rt: &R, alloc: Global, input: &[u8]) -> anyhow::Result<()> {
     let mut words = Vec::new(alloc);
     for word in std::str::from_utf8(input)?.split_whitespace() {
@@ -106,7 +110,7 @@ fn lines<R: Print>(rt: &R, alloc: Global, input: &[u8]) -> anyhow::Result<()> {
     tell(rt, first.err(), is_kept, text.as_str())
 }
 
-/// A reporter kicks match 1 off, and a reader reads so often.
+/// The steps in which a reporter kicks off match 1, and then a reader takes so many readings.
 fn run_of(alloc: Global, readings: usize) -> anyhow::Result<Vec<Step>> {
     let reporter = Caller::Reporter(ReporterNo::new(1).context("no such reporter")?);
     let kick_off = EventCall {
@@ -131,7 +135,8 @@ fn run_of(alloc: Global, readings: usize) -> anyhow::Result<Vec<Step>> {
     Ok(steps)
 }
 
-/// A run of one reading, and of one more for each byte of the input.
+/// Runs the same list of steps twice, in which a reader takes one reading more than the input has bytes, and prints both outcomes. The
+/// first run may be refused memory.
 fn steps<R: Print>(rt: &R, alloc: Global, input: &[u8]) -> anyhow::Result<()> {
     let cast = Cast {
         reporters: 1,
@@ -151,7 +156,7 @@ fn steps<R: Print>(rt: &R, alloc: Global, input: &[u8]) -> anyhow::Result<()> {
     tell(rt, first.err(), is_kept, text.as_str())
 }
 
-/// Tells of two boards that were opened: each is fresh.
+/// Prints the outcome of opening a board twice. A board that the first call has opened has to read as the second, which is fresh.
 fn opened<B: LiveBoard + Drop, R: Print + Wait>(
     rt: &R,
     alloc: Global,
@@ -172,6 +177,7 @@ fn opened<B: LiveBoard + Drop, R: Print + Wait>(
     }
 }
 
+/// Opens a cell board twice, and prints both outcomes. The first call may be refused memory.
 fn cells<R: Print + Wait>(rt: &R, alloc: Global) -> anyhow::Result<()> {
     mark(alloc, BEGINS)?;
     let first = CellBoard::open(rt, alloc);
@@ -179,6 +185,7 @@ fn cells<R: Print + Wait>(rt: &R, alloc: Global) -> anyhow::Result<()> {
     opened(rt, alloc, first, CellBoard::open(rt, alloc)?)
 }
 
+/// Opens a word board twice, and prints both outcomes. The first call may be refused memory.
 fn tables<R: Print + Wait>(rt: &R, alloc: Global) -> anyhow::Result<()> {
     mark(alloc, BEGINS)?;
     let first = WordBoard::open(rt, alloc);
@@ -193,6 +200,7 @@ struct Filling<'a> {
 }
 
 impl io::Write for Filling<'_> {
+    /// Appends the bytes to the list; takes none if there is no memory.
     fn write(&mut self, buf: &[u8]) -> io::Result<usize> {
         match self.out.extend_from_slice(buf) {
             Ok(()) => Ok(buf.len()),
@@ -200,6 +208,7 @@ impl io::Write for Filling<'_> {
         }
     }
 
+    /// Does nothing, since nothing is buffered.
     fn flush(&mut self) -> io::Result<()> {
         Ok(())
     }
@@ -212,7 +221,7 @@ enum Engine {
     Show,
 }
 
-/// The answer of a run to an input. What goes out goes to a list.
+/// Runs `feed` or `show`, as `engine` says, over the input, and returns its result. What it writes is appended to `out`.
 fn answered(
     alloc: Global,
     engine: Engine,
@@ -227,6 +236,7 @@ fn answered(
     }
 }
 
+/// Runs `feed` or `show` over the input twice, and prints both outcomes. The first run may be refused memory.
 fn runs<R: Print>(rt: &R, alloc: Global, engine: Engine, input: &[u8]) -> anyhow::Result<()> {
     let mut part = Vec::with_capacity(alloc, 8192)?;
     mark(alloc, BEGINS)?;
@@ -238,7 +248,7 @@ fn runs<R: Print>(rt: &R, alloc: Global, engine: Engine, input: &[u8]) -> anyhow
     tell(rt, first.err(), is_kept, std::str::from_utf8(&whole)?)
 }
 
-/// How many rows of the script the rules take, one after the other.
+/// How many rows of the script are accepted if they are entered in script order on a fresh board.
 fn taken_of(night: &Night) -> u16 {
     let mut board = Board::fresh();
     for event in &night.events {
@@ -247,8 +257,8 @@ fn taken_of(night: &Night) -> u16 {
     board.version()
 }
 
-/// Whether a board has no event but rows of the script and what it had before: each match is as its rows make it, as many of them as it has events.
-/// The reporters of the night have the numbers after the `earlier` ones.
+/// Whether `read`, the board after a night, is `alone`, the board before it, with rows of the script entered and no other event: of each
+/// match those that expect a number below the match's event number in `read`. Reporters 1 and 2 have the numbers `earlier` + 1 and + 2.
 fn is_of_rows(read: &Board, night: &Night, mut alone: Board, earlier: u8) -> bool {
     for event in &night.events {
         if event.call.expected < read.game(event.call.game).number {
@@ -260,9 +270,9 @@ fn is_of_rows(read: &Board, night: &Night, mut alone: Board, earlier: u8) -> boo
     alone == *read
 }
 
-/// A night of the script on a board, on which a stranger may have entered an event, and then one on a fresh board of the same kind. A pass that was
-/// split off before the first reads what that board has kept: no other events than rows of the script, and all that the rules take where the night
-/// ended well. It gets the number after those of the two reporters, or a lower one, so no other was enlisted.
+/// Holds a night of the script on the first board, where memory may be refused, and one on the second, and prints both outcomes. A third
+/// reporter first enters `entered`, if it is an event. A pass split off before the first night has to read only that event and rows of the
+/// script, all accepted ones if the night ended well; its number has to show that two reporters at most were enlisted.
 fn nights<B: LiveBoard + Drop, R: Print + Threads + Wait + Sync>(
     rt: &R,
     alloc: Global,
@@ -296,7 +306,7 @@ fn nights<B: LiveBoard + Drop, R: Print + Threads + Wait + Sync>(
     tell(rt, one.err(), is_kept, other.closing.as_str())
 }
 
-/// A night on a board that has one number of a reporter left: it is refused, and takes that one.
+/// Holds a night on a board that has one number of a reporter left, and prints the fault, and whether the night has used up that number.
 fn full_night<B: LiveBoard, R: Print + Threads + Wait + Sync>(
     rt: &R,
     alloc: Global,
@@ -318,7 +328,40 @@ fn full_night<B: LiveBoard, R: Print + Threads + Wait + Sync>(
     tell(rt, one.err(), is_full, "")
 }
 
-/// Makes the call that the word names.
+/// Holds two nights of the script in the input on word boards of their own, as `nights` does.
+fn word_nights<R: Print + Threads + Wait + Sync>(
+    rt: &R,
+    alloc: Global,
+    input: &[u8],
+    entered: Option<EventCall>,
+) -> anyhow::Result<()> {
+    let night = night_of_bytes(alloc, input)?;
+    let (first, second) = (WordBoard::open(rt, alloc)?, WordBoard::open(rt, alloc)?);
+    nights(rt, alloc, first, second, &night, entered)
+}
+
+/// Holds two nights of the script in the input on cell boards of their own, as `nights` does, without a third reporter.
+fn cell_nights<R: Print + Threads + Wait + Sync>(
+    rt: &R,
+    alloc: Global,
+    input: &[u8],
+) -> anyhow::Result<()> {
+    let night = night_of_bytes(alloc, input)?;
+    let (first, second) = (CellBoard::open(rt, alloc)?, CellBoard::open(rt, alloc)?);
+    nights(rt, alloc, first, second, &night, None)
+}
+
+/// Holds a night of the script in the input on a word board, as `full_night` does.
+fn full_word_night<R: Print + Threads + Wait + Sync>(
+    rt: &R,
+    alloc: Global,
+    input: &[u8],
+) -> anyhow::Result<()> {
+    let (board, pass) = WordBoard::open(rt, alloc)?;
+    full_night(rt, alloc, &board, pass, &night_of_bytes(alloc, input)?)
+}
+
+/// Makes the library call that `call` names, with the input, in most cases twice, and prints the outcomes.
 pub fn run<R: Print + Threads + Wait + Sync>(
     rt: &R,
     alloc: Global,
@@ -331,21 +374,10 @@ pub fn run<R: Print + Threads + Wait + Sync>(
         "read_words" => sheets(rt, alloc, input),
         "feed_run" => runs(rt, alloc, Engine::Feed, input),
         "show_run" => runs(rt, alloc, Engine::Show, input),
-        "night_run" | "night_run_beside_a_stranger" => {
-            let night = night_of_bytes(alloc, input)?;
-            let (first, second) = (WordBoard::open(rt, alloc)?, WordBoard::open(rt, alloc)?);
-            let entered = kick_off().filter(|_| call != "night_run");
-            nights(rt, alloc, first, second, &night, entered)
-        }
-        "night_run_on_a_full_board" => {
-            let (board, pass) = WordBoard::open(rt, alloc)?;
-            full_night(rt, alloc, &board, pass, &night_of_bytes(alloc, input)?)
-        }
-        "night_run_in_a_cell" => {
-            let night = night_of_bytes(alloc, input)?;
-            let (first, second) = (CellBoard::open(rt, alloc)?, CellBoard::open(rt, alloc)?);
-            nights(rt, alloc, first, second, &night, None)
-        }
+        "night_run" => word_nights(rt, alloc, input, None),
+        "night_run_beside_a_stranger" => word_nights(rt, alloc, input, kick_off()),
+        "night_run_on_a_full_board" => full_word_night(rt, alloc, input),
+        "night_run_in_a_cell" => cell_nights(rt, alloc, input),
         "run_steps" => steps(rt, alloc, input),
         "line_of" => lines(rt, alloc, input),
         "CellBoard::open" => cells(rt, alloc),

@@ -23,6 +23,7 @@ const IN_TURN: (u8, u8) = (11, 12);
 pub(crate) struct Random(u64);
 
 impl Random {
+    /// The source of random numbers with this seed.
     pub(crate) fn of(seed: u64) -> Random {
         Random(seed.wrapping_mul(0x9e37_79b9_7f4a_7c15) | 1)
     }
@@ -60,7 +61,7 @@ struct Entered {
     answer: Result<Accepted, Refusal>,
 }
 
-/// The number that a reporter has seen last of a match.
+/// The last event number of a match that a reporter knows from its replies, accepted or stale; 0 if it knows none.
 fn seen_of(entered: &[Entered], game: MatchNo) -> u16 {
     for one in entered.iter().rev() {
         if one.call.game == game {
@@ -73,7 +74,7 @@ fn seen_of(entered: &[Entered], game: MatchNo) -> u16 {
     0
 }
 
-/// The next of the events that are entered in turn.
+/// The next event of matches 11 and 12, in which one reporter enters the same events, each first in match 11 and then in match 12.
 fn in_turn(entered: &[Entered]) -> Option<EventCall> {
     let (first, second) = (MatchNo::new(IN_TURN.0)?, MatchNo::new(IN_TURN.1)?);
     let is_ahead = seen_of(entered, first) > seen_of(entered, second);
@@ -91,7 +92,7 @@ fn in_turn(entered: &[Entered]) -> Option<EventCall> {
     })
 }
 
-/// A random event. One in eight names a wrong number.
+/// A random event of matches 1 to 10, which expects the event number that its reporter knows; one in eight expects a random number below 5.
 fn at_random(random: &mut Random, entered: &[Entered]) -> Option<EventCall> {
     let game = MatchNo::new(random.below(10).saturating_add(1))?;
     let expected = match random.below(8) {
@@ -105,7 +106,8 @@ fn at_random(random: &mut Random, entered: &[Entered]) -> Option<EventCall> {
     })
 }
 
-/// What a reporter entered, by a random choice of this seed; the leading one also enters events in turn.
+/// Has a reporter enter 150 events, random by this seed, and returns them with their replies. If it leads, about half of them are events
+/// that it enters in turn in matches 11 and 12.
 fn enter<B: LiveBoard, R: Wait>(
     rt: &R,
     alloc: Global,
@@ -138,7 +140,7 @@ fn enter<B: LiveBoard, R: Wait>(
     Ok(entered)
 }
 
-/// What a reader read.
+/// Takes 100 readings by this pass, and returns them.
 fn read<B: LiveBoard, R: Wait>(
     rt: &R,
     alloc: Global,
@@ -154,7 +156,8 @@ fn read<B: LiveBoard, R: Wait>(
     Ok(readings)
 }
 
-/// Boards of one thread, on which a match has had none of the events that were accepted, the first of them, and so on.
+/// Boards of one thread on which the accepted events of a match are entered in the order of their numbers: after none of them, after the
+/// first, and so on.
 fn boards_of(alloc: Global, entered: &[Entered], game: MatchNo) -> Result<Vec<Board>, AllocError> {
     let mut board = Board::fresh();
     let mut boards = vec![in alloc; board]?;
@@ -169,7 +172,8 @@ fn boards_of(alloc: Global, entered: &[Entered], game: MatchNo) -> Result<Vec<Bo
     Ok(boards)
 }
 
-/// Whether one of these boards answers an event as it was answered, and is then the next one where it was accepted.
+/// Whether the reply to an event is that of the board, among these, that it was entered on; if it was accepted, it also has to lead to the
+/// next. Board k has the first k accepted events of the match.
 fn is_answer(one: &Entered, boards: &[Board]) -> bool {
     let before = match one.answer {
         Ok(Accepted { number }) => number.saturating_sub(1),
@@ -184,7 +188,7 @@ fn is_answer(one: &Entered, boards: &[Board]) -> bool {
         && (one.answer.is_err() || next == Some(&board))
 }
 
-/// Whether a match that was read is that of one of these boards.
+/// Whether a match is in a board that was read as it is in the one of these boards that has as many events of it.
 fn is_read(board: &Board, boards: &[Board], game: MatchNo) -> bool {
     let record = board.game(game);
     match boards.get(usize::from(record.number)) {
@@ -193,7 +197,8 @@ fn is_read(board: &Board, boards: &[Board], game: MatchNo) -> bool {
     }
 }
 
-/// How many events of a match were accepted; nothing where an answer or a reading is not that of the board of one thread.
+/// One more than the number of accepted events of a match; nothing if a reply or a reading is not as on a board of one thread, on which
+/// these events are entered in the order of their numbers.
 fn replayed(
     alloc: Global,
     entered: &[Entered],
@@ -214,7 +219,8 @@ fn replayed(
     Ok(Some(boards.len()))
 }
 
-/// Whether no reading is of a version below the one before or of other than its board's, or mixes the events that came in turn.
+/// Whether the readings are snapshots in order: no version falls or differs from that of its board, and match 11 has as many events as
+/// match 12, or one more.
 fn are_whole(readings: &[Reading]) -> bool {
     let (Some(first), Some(second)) = (MatchNo::new(IN_TURN.0), MatchNo::new(IN_TURN.1)) else {
         return false;
@@ -234,7 +240,7 @@ fn are_whole(readings: &[Reading]) -> bool {
     true
 }
 
-/// Whether the answers and the readings of a night, the last of which is settled, are those of the board of one thread.
+/// Whether all replies and readings of a night are as on a board of one thread, and the last reading, the settled one, has all its events.
 fn are_right(alloc: Global, entered: &[Entered], readings: &[Reading]) -> Result<bool, AllocError> {
     let mut version = 0usize;
     for game in (1..13).filter_map(MatchNo::new) {
@@ -249,7 +255,8 @@ fn are_right(alloc: Global, entered: &[Entered], readings: &[Reading]) -> Result
     Ok(is_counted && are_whole(readings))
 }
 
-/// A night of this seed on a board, and whether each answer is that of the board of one thread.
+/// Holds a random night of this seed on a board, with two reporters and a reader in threads, and returns whether all replies and readings
+/// are as on a board of one thread.
 fn agrees<B: LiveBoard, R: Threads + Wait + Sync>(
     rt: &R,
     alloc: Global,
@@ -305,7 +312,7 @@ fn agrees<B: LiveBoard, R: Threads + Wait + Sync>(
     Ok(are_right(alloc, &entered, &readings)?)
 }
 
-/// Plays so many nights on each board, and tells how many of them differ from the board of one thread.
+/// Holds so many random nights on each kind of board, and prints how many of them do not agree with a board of one thread.
 pub fn run<R: Print + Threads + Wait + Sync>(
     rt: &R,
     alloc: Global,

@@ -13,12 +13,12 @@ pub ended_none : (cap : ℕ) (line : List ℕ) → ended_lines cap line [] ≡ [
 unfolding ended_lines
 ended_none cap line = refl
 
--- after no bytes the line that has begun is what was kept of it before
+-- after no bytes the unfinished line is what it was before
 pub begun_none : (cap : ℕ) (line : List ℕ) → begun_line cap line [] ≡ line
 unfolding begun_line
 begun_none cap line = refl
 
--- the lines of two parts are those that end in the first, and then those that end in the second with what the first left begun
+-- the lines that end in `xs ++ ys` are those that end in `xs`, and then those that end in `ys`, which goes on from the line left unfinished
 pub ended_append : (cap : ℕ) (line xs ys : List ℕ) → ended_lines cap line (xs ++ ys) ≡ ended_lines cap line xs ++ ended_lines cap (begun_line cap line xs) ys
 unfolding ended_lines begun_line
 ended_append cap line [] ys = refl
@@ -27,7 +27,7 @@ ended_append cap line (b ∷ xs) ys = elim (cases_Bool (b == 10)) [
   | inr n ↦ rw n (ended_append cap (longer cap line b) xs ys)
 ]
 
--- what has begun after two parts has begun after the second, with what the first left begun
+-- the unfinished line after `xs ++ ys` is the one after `ys`, if `ys` goes on from the unfinished line after `xs`
 pub begun_append : (cap : ℕ) (line xs ys : List ℕ) → begun_line cap line (xs ++ ys) ≡ begun_line cap (begun_line cap line xs) ys
 unfolding begun_line
 begun_append cap line [] ys = refl
@@ -55,7 +55,7 @@ pub begun_ten : (cap : ℕ) (line : List ℕ) (b : ℕ) → b ≡ 10 → begun_l
 unfolding begun_line
 begun_ten cap line b e = rw e refl
 
--- all lines are those of some first bytes, and more
+-- the lines that end among bytes are those among the first i, and then those in the rest, which goes on from the line left unfinished
 pub ended_all : (cap : ℕ) (line bytes : List ℕ) (i : ℕ) → ended_lines cap line bytes ≡ ended_lines cap line (take i bytes) ++ ended_lines cap (begun_line cap line (take i bytes)) (drop i bytes)
 ended_all cap line bytes i = ap (ended_lines cap line) (sym (take-append-drop i bytes)) ∙ ended_append cap line (take i bytes) (drop i bytes)
 
@@ -80,21 +80,21 @@ unfolding ended_lines
 no_ended cap line [] h = refl
 no_ended cap line (b ∷ bytes) h = rw (ne_eqb b 10 h.0) (no_ended cap (longer cap line b) bytes h.1)
 
--- of a line with one byte more, and then more bytes, as much is kept as of the line with all of them
+-- to drop the byte `b` if `cap` bytes of the line are kept already, as `longer` does, does not change the first `cap` bytes of the whole
 take_longer : (cap : ℕ) (line bytes : List ℕ) (b : ℕ) → take cap (longer cap line b ++ bytes) ≡ take cap (line ++ b ∷ bytes)
 take_longer cap line bytes b = elim (cases_Bool (nat_le cap (length line))) [
   | inl y ↦ rw y (let h : cap ≤ length line = grind (arith, nat_tests) in take-append-le cap line bytes h ∙ sym (take-append-le cap line (b ∷ bytes) h))
   | inr n ↦ rw n (ap (take cap) (append_assoc line (b ∷ []) bytes))
 ]
 
--- a line is kept no longer than `cap`
+-- if at most `cap` bytes are kept of a line, at most `cap` are kept of it after one byte more
 pub longer_short : (cap : ℕ) (line : List ℕ) (b : ℕ) → length line ≤ cap → length (longer cap line b) ≤ cap
 longer_short cap line b h = elim (cases_Bool (nat_le cap (length line))) [
   | inl y ↦ rw y h
   | inr n ↦ rw n (let k = length-append line (b ∷ []) in grind (arith, nat_tests))
 ]
 
--- without a line feed what has begun is the line and all bytes, as much as is kept
+-- after bytes without a line feed, the unfinished line is `line` and these bytes, cut to `cap` bytes
 pub begun_all : (cap : ℕ) (line bytes : List ℕ) → HasNoFeed bytes → length line ≤ cap → begun_line cap line bytes ≡ take cap (line ++ bytes)
 unfolding begun_line
 begun_all cap line [] h short = sym (ap (take cap) (append-nil line) ∙ take_all cap line short)
@@ -109,7 +109,7 @@ begun_short cap line (b ∷ bytes) h = elim (cases_Bool (b == 10)) [
   | inr n ↦ rw n (begun_short cap (longer cap line b) bytes (longer_short cap line b h))
 ]
 
--- bytes without a line feed, and then one: they end the line, of which as much is kept as is kept, and nothing more has begun
+-- bytes without a line feed, and then a line feed, end one line: `line` and these bytes, cut to `cap` bytes
 pub ended_line : (cap : ℕ) (line end : List ℕ) → HasNoFeed end → length line ≤ cap → ended_lines cap line (end ++ 10 ∷ []) ≡ take cap (line ++ end) ∷ []
 ended_line cap line end clean short =
     ended_append cap line end (10 ∷ []) ∙ rw (no_ended cap line end clean, begun_all cap line end clean short) (ended_ten cap (take cap (line ++ end)) 10 refl)
@@ -127,7 +127,7 @@ first_line text at h clean is = record {
   clean = no_feed_front text at clean;
 }
 
--- what is left of bytes from place i on is all of it
+-- the first `length xs - i` of the bytes from place i on are all of them
 pub rest_of : (i : ℕ) (xs : List ℕ) → take (length xs - i) (drop i xs) ≡ drop i xs
 rest_of i xs = take_all (length xs - i) (drop i xs) (omega (arith, length-drop i xs))
 
@@ -137,7 +137,7 @@ line_within bytes i line l h =
     let long : length (drop i bytes) ≡ length line + length (10 ∷ l.rest) = ap (λ (k : List ℕ). length k) l.parts ∙ length-append line (10 ∷ l.rest) in
     omega (arith, long, length-drop i bytes)
 
--- the bytes up to its end are those before it, the line and its line feed
+-- if a line begins at place i, the bytes up to its end are those before place i, the line and its line feed
 pub line_taken : (bytes : List ℕ) (i : ℕ) (line : List ℕ) → BeginsWithLine (drop i bytes) line → take (i + (length line + 1)) bytes ≡ take i bytes ++ (line ++ 10 ∷ [])
 line_taken bytes i line l =
     let long : length (line ++ 10 ∷ []) ≡ length line + 1 = length-append line (10 ∷ []) in
@@ -146,21 +146,21 @@ line_taken bytes i line l =
     ∙ ap (λ (k : List ℕ). take i bytes ++ k)
     (ap (take (length line + 1)) parts ∙ ap (λ (n : ℕ). take n ((line ++ 10 ∷ []) ++ l.rest)) (sym long) ∙ take-append_seam (line ++ 10 ∷ []) l.rest)
 
--- if no line ends from place i on, what has begun then is what had begun at i and all later bytes, as much as is kept
+-- if there is no line feed from place i on, the unfinished line after all bytes is the one at i and all later bytes, cut to `cap` bytes
 pub rest_begun : (cap : ℕ) (line bytes : List ℕ) (i : ℕ) → HasNoFeed (drop i bytes) → length line ≤ cap
     → take cap (begun_line cap line (take i bytes) ++ drop i bytes) ≡ begun_line cap line bytes
 rest_begun cap line bytes i clean short =
     sym (begun_all cap (begun_line cap line (take i bytes)) (drop i bytes) clean (begun_short cap line (take i bytes) short)) ∙ sym (begun_append cap line (take i bytes) (drop i bytes))
     ∙ ap (begun_line cap line) (take-append-drop i bytes)
 
--- if no line ends from place i on, all lines have ended by then
+-- if there is no line feed from place i on, all lines that end among the bytes end before place i
 pub rest_ended : (cap : ℕ) (line bytes : List ℕ) (i : ℕ) → HasNoFeed (drop i bytes) → ended_lines cap line (take i bytes) ≡ ended_lines cap line bytes
 rest_ended cap line bytes i clean =
     sym (append-nil (ended_lines cap line (take i bytes))) ∙ ap (λ (l : List (List ℕ)). ended_lines cap line (take i bytes) ++ l)
     (sym (no_ended cap (begun_line cap line (take i bytes)) (drop i bytes) clean))
     ∙ sym (ended_all cap line bytes i)
 
--- one of the lines ends where a line feed is, and those before it are the lines of the bytes before this
+-- the line `last` ends at a line feed among these bytes, and the lines that end in the bytes before that line feed are `lines`
 pub record IsCutAt (cap : ℕ) (line bytes : List ℕ) (lines : List (List ℕ)) (last : List ℕ) : Type 0 where
   pub front : List ℕ
   pub more : List ℕ
@@ -168,13 +168,13 @@ pub record IsCutAt (cap : ℕ) (line bytes : List ℕ) (lines : List (List ℕ))
   pub before : ended_lines cap line front ≡ lines
   pub begun : begun_line cap line front ≡ last
 
--- a line that is cut from bytes is cut from them with one byte more before
+-- if the line `last` ends at a line feed among bytes, it also does so among these bytes with one byte more before them
 more_cut : (cap : ℕ) (line line2 bytes : List ℕ) (b : ℕ) (lines lines2 : List (List ℕ)) (last : List ℕ) (q : IsCutAt cap line2 bytes lines2 last)
     → ended_lines cap line (b ∷ q.front) ≡ lines → begun_line cap line (b ∷ q.front) ≡ last → IsCutAt cap line (b ∷ bytes) lines last
 more_cut cap line line2 bytes b lines lines2 last q before begun =
     record { front = b ∷ q.front; more = q.more; parts = ap (λ (l : List ℕ). b ∷ l) q.parts; before = before; begun = begun }
 
--- each of the lines that end is cut from bytes so
+-- each of the lines that end among bytes ends at a line feed there, and those before it in the list are the lines that end before that
 pub cut_at : (cap : ℕ) (line bytes : List ℕ) (lines : List (List ℕ)) (last : List ℕ) (rest : List (List ℕ)) → ended_lines cap line bytes ≡ lines ++ last ∷ rest → IsCutAt cap line bytes lines last
 unfolding ended_lines begun_line
 cut_at cap line [] [] last rest e = cc

@@ -12,14 +12,14 @@ use Rattle.ucl_io.specs.declared.fault.ServeFault.{ServeFault}
 use Rattle.ucl_io.specs.declared.fault.ServeFault.TheVariants.{WriteFailed}
 use Rattle.ucl_io.specs.Output.{HasPut, Outlet, PutsOrStops, StopsIn, StoppedShort, WritesOn}
 
--- one more call of a sink that took the first `at` bytes
+-- if a sink took the first `at` bytes of a text, and then n bytes of the rest, it took the first `at + n` bytes of the text
 pub gives-more : (a b c : Option (List ℕ)) (at n : ℕ) (text : List ℕ) → at + n ≤ length text → Appends a b (take at text)
     → Appends b c (take n (take (length text - at) (drop at text))) → Appends a c (take (at + n) text)
 gives-more a b c at n text le p q =
     let part : take n (take (length text - at) (drop at text)) ≡ take n (drop at text) = grind (arith, common_steps) in
     rw (take-add at n text) (Appends-trans a b c (take at text) (take n (drop at text)) p (rw part at q))
 
--- two values of `failed` are equal if both say that the sink has not failed
+-- two Booleans, whether a sink has failed at two times, are equal if neither can be true
 pub same_failed : (a b : Bool) → (a ≡ true → true ≡ false) → (b ≡ true → true ≡ false) → a ≡ b
 same_failed a b p q = false_from_ne_true a (λ e. true≢false (p e)) ∙ sym (false_from_ne_true b (λ e. true≢false (q e)))
 
@@ -80,21 +80,21 @@ put_stops a b c t u n p s =
     subst (λ (l : List ℕ). StoppedShort a.out c.failed a.taken c.taken l n) (all_put a b t u p)
     (stopped_second a.out b.out c.failed a.taken b.taken c.taken p.given (b.held ++ u) n p.went p.told s)
 
--- what waited is given to the sink once a text was put
+-- if a text was put, and then the empty text, as when what waits is given to the sink, this is as if just the text was put
 pub put_flushed : (a b c : Outlet) (t : List ℕ) → HasPut a b t → HasPut b c [] → HasPut a c t
 put_flushed a b c t p q = subst (HasPut a c) (append-nil t) (put_then a b c t [] p q)
 
--- a sink that failed when what waited was to go out failed in the text that was put before
+-- if a text was put, and the sink then fails in what waits, it fails in what waited before and this text
 pub put_cut : (a b c : Outlet) (t : List ℕ) (n : ℕ) → HasPut a b t → StopsIn b c [] n → StopsIn a c t n
 put_cut a b c t n p s = subst (λ (l : List ℕ). StopsIn a c l n) (append-nil t) (put_stops a b c t [] n p s)
 
--- where nothing waited and nothing waits, all went out
+-- if nothing waited before a text was put and nothing waits after it, the sink took the whole text
 pub all_out : (a b : Outlet) (t : List ℕ) → HasPut a b t → a.held ≡ [] → b.held ≡ [] → Appends a.taken b.taken t
 all_out a b t p none none2 =
     let e : p.given ≡ t = sym (append-nil p.given) ∙ ap (λ (l : List ℕ). p.given ++ l) (sym none2) ∙ p.rest ∙ ap (λ (l : List ℕ). l ++ t) none in
     subst (Appends a.taken b.taken) e p.went
 
--- bytes are given to the sink where nothing waits
+-- if a sink took a text and did not fail, and nothing waited before and nothing waits after it, the text has been put
 pub given_after : (a b : Outlet) (text : List ℕ) → a.held ≡ [] → b.held ≡ [] → Appends a.taken b.taken text → b.out ≡ min (a.out + length text) (2 ^ 64 - 1) → b.failed ≡ a.failed → HasPut a b text
 given_after a b text none none2 went told sound = record { given = text; went = went; rest = rw (none, none2) (append-nil text); told = told; sound = sound }
 

@@ -17,7 +17,7 @@ use Rattle.ucl_io.specs.Calls.{LogsCalls}
 use Rattle.ucl_io.specs.Serving.{Given, HasClosed, IsOut, IsPromptAt, LineRules, Seen, ServeEnds, ServedBy}
 use Rattle.ucl_io.proofs.Calls.{ended, ended-since, logs-as, logs-none, logs-then}
 
--- the last of these lines is the one to which the handler has no answer: the lines before it, and the handler there
+-- the handler answered all of these lines but the last, `line`, to which it has no answer in the state that it was in then
 pub record Front {M F : Type 0} (R : Rules M F) (row : ℕ) (m : M) (lines : List (List ℕ)) (text : List ℕ) (n : M) (fault : F) : Type 0 where
   pub front : List (List ℕ)
   pub line : List ℕ
@@ -248,11 +248,12 @@ first_of s = record { row = 1; handler = s.handler; outlet = record { held = [];
 abbrev pub stands : {M : Type 0} → Seen M → ℕ → List ℕ → ℕ → Progress M
 stands s row held out = record { row = row; handler = s.handler; outlet = record { held = held; out = out; taken = s.device.taken; failed = s.device.failed } }
 
--- the lines that were given between two states
+-- what a handler was given between two states: the lines, and with them the answers, the handler afterwards, and the fault if there is one
 abbrev pub given_by : {V M F : Type 0} {R : Rules M F} {a b : Progress M} {lines : List (List ℕ)} {r : Result V (ServeFault F)} → Answered R a b lines r → Given M F
 given_by {b = b} p = record { lines = p.given; text = p.text; handler = b.handler; fault = p.fault }
 
--- where a run stands before a call for bytes: it took these bytes, answered all their lines that have an end, and nothing waits
+-- where a run stands before a call for bytes: it took these bytes, answered all their lines that have an end, and nothing waits; its calls for
+-- bytes so far are logged, each with the run prompt at that moment, and at least so many bytes have come as a next call needs
 pub record Standing {M F T : Type 0} (D : LineRules M F) (cap : ℕ) (at : T → Seen M) (count : T → ℕ) (start now : T) (log log2 : List T) (row : ℕ) (begun held : List ℕ) (out : ℕ) : Type 0 where
   pub bytes : List ℕ
   pub consumed : Consumes (at start).device.left (at now).device.left bytes
@@ -262,7 +263,7 @@ pub record Standing {M F T : Type 0} (D : LineRules M F) (cap : ℕ) (at : T →
   pub logged : LogsCalls count log log2 (count start) (count now) (λ time. IsPromptAt D.line cap (at start) (at time) (given_by answered))
   pub more : logged.least ≤ length bytes
 
--- a run stands so before its first call for bytes
+-- before its first call for bytes a run has taken no bytes, answered no line and logged no call, and no answer waits
 abbrev pub standing_first : {M F T : Type 0} (D : LineRules M F) (cap : ℕ) (at : T → Seen M) (count : T → ℕ) (start : T) (log : List T) (row : ℕ) (begun held : List ℕ) (out : ℕ)
     → row ≡ 1 → begun ≡ [] → held ≡ [] → out ≡ 0 → Standing D cap at count start start log log row begun held out
 standing_first {M} {F} D cap at count start log row begun held out row_is begun_is none out_is = record {

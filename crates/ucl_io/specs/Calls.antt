@@ -1,16 +1,17 @@
--- When a source, which gives bytes, was called for them; and a source and a sink, which takes bytes, as contracts see them.
+-- When a source was called for bytes; and a source and a sink as contracts see them.
 -- A time is a state just before such a call. `left` is what a source has left and `taken` what a sink has taken, None if not known.
 use Rattle.std.specs.Prelude.{◌≡◌, ◌≤◌, ℕ, ◌+◌, suc, Bool, List, [], ◌∷◌, ◌++◌, length, Option, Some, IfSome}
 
--- at the first of these times the number of calls, which `count` gives, was `calls`, and at each later one it was one more. By each time some
--- bytes had come, more than by the one before: so a call that gave none was the last. P held of the time and these bytes. At a next call
--- `least` bytes have to have come
+-- the listed moments are those just before each call of a source, in order; `count` says how many calls were made by a moment, `calls` before
+-- the first. P holds of each moment and the bytes that had come by then. More had come than by the moment before, so no call follows one
+-- that gave no byte; by a next call at least `least` bytes have to have come
 pub data InTurn {T : Type 0} (count : T → ℕ) (calls : ℕ) (P : T → List ℕ → Type 0) : List T → ℕ → Type 0 where
   none : InTurn count calls P [] 0
   call : {times : List T} {least : ℕ} (time : T) (bytes : List ℕ) → InTurn count calls P times least → count time ≡ calls + length times → least ≤ length bytes
       → P time bytes → InTurn count calls P (times ++ time ∷ []) (suc (length bytes))
 
--- a log grew from old to new by `times`, one just before each of the calls that took their number from `calls` to `calls2`
+-- a log grew from `old` to `new` by `times`, one just before each call of a source, whose number of calls went from `calls` to `calls2`;
+-- P holds of each time and the bytes that had come by then
 pub record LogsCalls {T : Type 0} (count : T → ℕ) (old new : List T) (calls calls2 : ℕ) (P : T → List ℕ → Type 0) : Type 0 where
   pub times : List T
   pub more : new ≡ old ++ times

@@ -1,4 +1,4 @@
--- What contracts see of a reader of std as a source, which gives bytes (`FromRead`), and of a writer as a sink, which takes bytes.
+-- What contracts see of a reader of std as a source (`FromRead`), and of a writer as a sink.
 use Rattle.std.specs.Prelude.{Bool}
 use Rattle.ucl_io.specs.declared.devices.FromRead.{FromRead}
 use Rattle.ucl_io.specs.declared.devices.ToWrite.{ToWrite}

@@ -1,4 +1,4 @@
--- Outlets: a sink, which takes bytes; the text that waits to be given to it; and how many bytes went out before, counted up to 2^64 - 1.
+-- Outlets: a sink; the text that waits to be given to it; and how many bytes went out before, counted up to 2^64 - 1.
 -- `before` and `after` are an outlet before and after a call; what a sink has taken is None if it is not known.
 use Rattle.std.specs.Prelude.{◌≡◌, ℕ, ◌+◌, ◌-◌, ◌^◌, min, Bool, true, List, ◌++◌, length, Option, Result, Ok, Err}
 use Rattle.std.specs.Io.KnownBytes.{Appends}
@@ -22,7 +22,7 @@ pub record Outlet : Type 0 where
 abbrev pub outlet : {W : Type 0} → (W → Option (List ℕ)) → (W → Bool) → Waiting → W → Outlet
 outlet taken failed waiting sink = record { held = waiting.held; out = waiting.out; taken = taken sink; failed = failed sink }
 
--- a text was put after what waited: of both a first part, maybe none, went out, and the rest waits; the sink did not fail in it
+-- a text was put behind the text that waited for a sink: a first part of the two, maybe none, went out, and the rest waits; no failure
 pub record HasPut (before after : Outlet) (text : List ℕ) : Type 0 where
   pub given : List ℕ
   pub went : Appends before.taken after.taken given
@@ -30,14 +30,14 @@ pub record HasPut (before after : Outlet) (text : List ℕ) : Type 0 where
   pub told : after.out ≡ min (before.out + length given) (2 ^ 64 - 1)
   pub sound : after.failed ≡ before.failed
 
--- the sink has failed in a text, of which some first bytes went out and not all; with `before` bytes before it `written` are out in all
+-- the sink has failed in a text, of which only a first part went out; `written` bytes are out in all, with the `before` bytes before it
 pub record StoppedShort (before : ℕ) (failed : Bool) (old new : Option (List ℕ)) (text : List ℕ) (written : ℕ) : Type 0 where
   pub failed_is : failed ≡ true
   pub count : ℕ
   pub first : WroteFirst old new count text
   pub told : written ≡ min (before + count) (2 ^ 64 - 1)
 
--- a text was given to a sink at once, and the result is how many bytes are out then in all; or the sink failed in it; no other fault comes
+-- a text was given to a sink at once: the result is how many bytes are out in all, or `WriteFailed` if the sink failed, and no other fault
 abbrev pub WritesOn : {F : Type 0} → Outlet → Outlet → List ℕ → Result ℕ (ServeFault F) → Type 0
 WritesOn before after text (Ok out) =
     Appends before.taken after.taken text × (out ≡ min (before.out + length text) (2 ^ 64 - 1)) × (after.failed ≡ before.failed)

@@ -1,6 +1,5 @@
 -- What `serve_lines` did: it takes bytes from a source, has a handler answer each line, and gives the answers to a sink.
--- A run is one call of it. `old` and `new` are source, sink and handler before and after it, D are the rules of the handler: which answers it
--- gives to a line, and for which fault it has none. Of a line `cap` bytes are kept.
+-- `old` and `new` are source, sink and handler before and after; D are the rules of the handler. Of a line `cap` bytes are kept.
 use Rattle.std.specs.Prelude.{◌≡◌, ◌⊎◌, ℕ, ◌+◌, ◌^◌, ◌<◌, Bool, true, false, List, [], ◌++◌, length, Option, Some, None, Result, Ok, Err}
 use Rattle.std.specs.Io.KnownBytes.{Appends, Consumes}
 use Rattle.ucl_io.specs.declared.fault.ServeFault.{ServeFault}
@@ -28,7 +27,7 @@ pub record Seen (M : Type 0) : Type 0 where
   pub device : Device
   pub handler : M
 
--- what contracts see of a source, a sink and a handler
+-- what contracts see of `time`, a source, a sink and a handler as they are at one moment
 abbrev pub seen : {S W M : Type 0} → reads.Ghosts S → writes.Ghosts W → S × W × M → Seen M
 seen source sink time = record { device = device source.left sink.taken sink.failed time.0 time.1; handler = time.2 }
 
@@ -39,8 +38,8 @@ pub record Given (M F : Type 0) : Type 0 where
   pub handler : M
   pub fault : Option F
 
--- at the time `now` of a run these bytes had come: just the lines that had ended among them were answered, and just their answers were out; and
--- the lines that the run gave after it were answered, or not, from there on
+-- at the time `now` of a run these bytes had come: just the lines that had ended among them were answered, and just their answers were out;
+-- all other lines of the run were given to the handler after this time
 pub record IsPromptAt {M F : Type 0} (R : Rules M F) (cap : ℕ) (old now : Seen M) (given : Given M F) (bytes : List ℕ) : Type 0 where
   pub text : List ℕ
   pub later : List (List ℕ)
@@ -63,12 +62,12 @@ pub record Run (M F : Type 0) : Type 0 where
 abbrev pub AnsweredAll : {M F : Type 0} → Run M F → Type 0
 AnsweredAll run = (run.rest ≡ []) × (run.given.fault ≡ None)
 
--- the handler is left as it was after the lines that it was given
+-- the handler is in the state after the last line that the run gave to it, and no answer was given to the bytes after the last line feed
 abbrev pub IsLeft : {M F : Type 0} → M → Run M F → Type 0
 IsLeft m run = (m ≡ run.given.handler) × (run.last ≡ [])
 
--- the input has ended, all its lines were answered, and of the bytes after its last line feed, which may be none, this holds, by the state of the
--- handler after the lines, their number and these bytes
+-- the input has ended, all its lines were answered, and `Holds` is true of the handler after them, the number of the next line, and the
+-- bytes after the last line feed, which may be none
 pub record HasClosed {M F : Type 0} (cap : ℕ) (old new : Seen M) (run : Run M F) (Holds : M → ℕ → List ℕ → Type 0) : Type 0 where
   pub ended : HasEnded old.device.left new.device.left
   pub all : AnsweredAll run
@@ -82,9 +81,9 @@ AnswersLast D cap old new run = HasClosed cap old new run (λ m row begun. D.las
 abbrev pub StopsLast : {M F : Type 0} → LineRules M F → ℕ → Seen M → Seen M → Run M F → F → Type 0
 StopsLast D cap old new run fault = HasClosed cap old new run (λ m row begun. D.last.Stops m row begun new.handler fault)
 
--- why a run ended, by its result: the input has ended; the source failed, or more bytes came than any input has, when all lines that had an
--- end were answered; the sink failed in the answers; or the handler has no answer to a line, or to the bytes after the last one.
--- In each case it says how the handler is left
+-- why a run ended, by its result, and how it leaves the handler: the input has ended; the source failed, or more than 2^62 bytes came, when
+-- all lines that had an end were answered; the sink failed in the answers; or the handler has no answer to a line, or to the bytes after
+-- the last line feed
 abbrev pub ServeEnds : {M F : Type 0} → LineRules M F → ℕ → Seen M → Seen M → Run M F → Result ℕ (ServeFault F) → Type 0
 ServeEnds D cap old new run (Ok count) = (count ≡ length (ended_lines cap [] run.bytes)) × AnswersLast D cap old new run
 ServeEnds D cap old new run (Err (ReadFailed count)) = (count ≡ length run.bytes) × AnsweredAll run × IsLeft new.handler run
@@ -109,7 +108,8 @@ pub record ServedBy {M F : Type 0} (D : LineRules M F) (cap : ℕ) (old new : Se
   pub out : IsOut old.device new.device (run.given.text ++ run.last) result
   pub ends : ServeEnds D cap old new run result
 
--- what a run over a source and a sink did, with the handler m before it and n after it. It was prompt at each call for bytes, also if it failed
+-- what a run over a source and a sink did, with the handler m before it and n after it. At each call for bytes, also in a run that failed,
+-- just the lines that had ended by then were answered, and just their answers were out
 abbrev pub Served : {S W M F : Type 0} → reads.Ghosts S → writes.Ghosts W → LineRules M F → ℕ → LoggedIo S W M → LoggedIo S W M → M → M → Result ℕ (ServeFault F) → Type 0
 Served source sink D cap before after m n result =
     let old = seen source sink (before.source, before.sink, m) in

@@ -21,7 +21,7 @@ pub record WroteFirst (old new : Option (List ℕ)) (n : ℕ) (text : List ℕ) 
 abbrev pub MovesCount : Option (List ℕ) → Option (List ℕ) → ℕ → Type 0
 MovesCount old new n = (bytes : List ℕ) × (length bytes ≡ n) × Consumes old new bytes
 
--- the calls of a sink for a text of `all` bytes: at most one for each byte that went out, and one more if the sink failed
+-- a text of `all` bytes took a sink's number of calls from `old` to `new`: at most one for each byte that went out, and one if it failed
 abbrev pub CallsGive : {V : Type 0} → ℕ → ℕ → ℕ → Result V ℕ → Type 0
 CallsGive old new all (Ok v) = new ≤ old + all
 CallsGive old new all (Err out) = new ≤ old + out + 1

@@ -1,5 +1,4 @@
 -- What a handler answers to lines, one after the other. `row` is the number of a line.
--- An outlet is a sink (bytes go to it) and the text that waits for it. An answer that is put has gone out or waits, after those before it.
 -- `a` is the progress before lines and `b` after them; R are the rules of the handler.
 use Rattle.std.specs.Prelude.{◌≡◌, ℕ, ◌+◌, Bool, List, [], ◌∷◌, ◌++◌, length, Option, Some, None, Result, Ok, Err}
 use Rattle.ucl_io.specs.declared.fault.ServeFault.{ServeFault}

@@ -1,5 +1,4 @@
-//! `CallLog`: the calls of a source, in a log that contracts alone see. A source gives bytes, a sink takes bytes, and a handler answers
-//! lines; `S`, `W` and `M` are their types.
+//! `CallLog`: the calls of a source, in a log that contracts alone see. `S`, `W` and `M` are the types of source, sink and handler.
 
 ghost use Rattle.std.specs.Prelude.{◌≡◌, List, [], ◌∷◌, ◌++◌};
 ghost use base.Fml.{ftrue};

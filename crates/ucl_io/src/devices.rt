@@ -1,5 +1,5 @@
-//! `FromRead` makes a reader of std a source, which gives bytes, and `ToWrite` makes a writer of std a sink, which takes bytes. Each keeps
-//! whether a call of it has failed, and for contracts alone a log of its calls.
+//! `FromRead` makes a reader of std a source, and `ToWrite` makes a writer of std a sink. Each keeps whether a call of it has failed, and
+//! for contracts alone a log of its calls.
 
 ghost use Rattle.std.specs.Prelude.{◌≡◌, false, length};
 ghost use Rattle.ucl_io.specs.Devices.{reader_of, read_failed, writer_of, write_failed};

@@ -1,5 +1,4 @@
-//! Handlers: what answers the lines of an input, one after the other. A handler has a state that each line may change; a run is one call of
-//! `serve_lines`, which gives a handler all lines of a source, numbered from 1, and writes its answers to a sink.
+//! Handlers: what answers the lines of an input, one after the other. A handler has a state that each line may change.
 
 ghost use Rattle.std.specs.Prelude.{◌≡◌, ℕ, List, IfErr, OnOk};
 

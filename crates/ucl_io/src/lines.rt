@@ -1,6 +1,5 @@
-//! Cuts bytes into lines as they come, and puts a handler's answers into an output, which holds text back until it is given to a sink.
-//! Of a line at most `cap` first bytes are kept; `begun` is what is kept of a line without its end yet, and `row` its number, from 1;
-//! `text` is the buffer for an answer. In contracts `progress` is the next line's number, the handler, the output and the sink.
+//! Cuts bytes into lines as they come, and puts a handler's answers into an output. Of a line at most `cap` first bytes are kept; `begun`
+//! is what is kept of a line without its end yet. In contracts `progress` is the next line's number, the handler, the output and the sink.
 
 ghost use Rattle.std.specs.Prelude.{◌≡◌, ◌+◌, ◌-◌, ◌^◌, ◌<◌, ◌≤◌, [], ◌∷◌, ◌++◌, length, take, IfSome, None, OnOk};
 ghost use Rattle.ucl_io.specs.Lines.{BeginsWithLine, HasNoFeed, begun_line, ended_lines};

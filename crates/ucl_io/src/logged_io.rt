@@ -1,4 +1,4 @@
-//! `LoggedIo`: a source, which gives bytes, and a sink, which takes bytes, with a log that contracts alone see of the calls of the source.
+//! `LoggedIo`: a source and a sink, with a log that contracts alone see of the calls of the source.
 
 ghost use Rattle.std.specs.Prelude.{◌≡◌, ◌+◌, ◌<◌, ◌≤◌, ◌↔◌, true, [], ◌∷◌, ◌++◌, length, IsNone, IfSome};
 ghost use Rattle.std.specs.Io.KnownBytes.{IsAtEnd};

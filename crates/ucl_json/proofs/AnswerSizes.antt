@@ -33,32 +33,37 @@ use Rattle.ucl_screen.proofs.HexDigits.{low, word-digits}
 use Rattle.ucl_screen.specs.Matches.{state_name}
 use Rattle.ucl_json.proofs.PlainValues.{ArePlain, IsPlain, IsPlainNumber, IsText, items_size, quoted-length, size}
 
--- a number below 10 has one decimal digit, and so on: one below 10^k has at most k
+-- a number below 10 has at most one decimal digit
 pub digits-1 : (n : ℕ) → n < 10 → length (decimal n) ≤ 1
 digits-1 n h = length-decimal-le 1 n (omega arith) h (omega arith)
 
+-- a number below 100 has at most two decimal digits
 pub digits-2 : (n : ℕ) → n < 100 → length (decimal n) ≤ 2
 digits-2 n h = length-decimal-le 2 n (omega arith) h (omega arith)
 
+-- a number below 1,000 has at most three decimal digits
 pub digits-3 : (n : ℕ) → n < 1000 → length (decimal n) ≤ 3
 digits-3 n h = length-decimal-le 3 n (omega arith) h (omega arith)
 
+-- a number below 100,000 has at most five decimal digits
 pub digits-5 : (n : ℕ) → n < 100000 → length (decimal n) ≤ 5
 digits-5 n h = length-decimal-le 5 n (omega arith) h (omega arith)
 
+-- a number below 1,000,000 has at most six decimal digits
 pub digits-6 : (n : ℕ) → n < 1000000 → length (decimal n) ≤ 6
 digits-6 n h = length-decimal-le 6 n (omega arith) h (omega arith)
 
+-- a number below 2^64 has at most 20 decimal digits
 pub digits-20 : (n : ℕ) → n < 2 ^ 64 → length (decimal n) ≤ 20
 digits-20 n h = length-decimal-le 20 n (omega arith) (omega arith) h
 
--- each hexadecimal digit is printed, and is written as it is
+-- each hexadecimal digit is a printable byte, which JSON writes as it is, without a backslash
 glyph-plain : (d : ℕ) → d < 16 → (is_printed (digit_glyph false d) ≡ true) × (escape_byte (digit_glyph false d) ≡ digit_glyph false d ∷ [])
 unfolding escape_byte
 glyph-plain (suc (suc (suc (suc (suc (suc (suc (suc (suc (suc (suc (suc (suc (suc (suc (suc d)))))))))))))))) h = absurd (omega arith)
 glyph-plain _ _ = (refl, refl)
 
--- the last k hexadecimal digits of a number are printed, and put into quotes as they are
+-- the last k hexadecimal digits of a number, before other printable bytes, are printable, and JSON writes them as they are
 low-plain : (k n : ℕ) (rest : List ℕ) → IsText rest → IsText (low k n rest) × (length (escape (low k n rest)) ≡ k + length (escape rest))
 low-plain zero n rest h = (h, omega arith)
 low-plain (suc k) n rest h =
@@ -66,15 +71,15 @@ low-plain (suc k) n rest h =
     let more = low-plain k (n / 16) (digit_glyph false (n % 16) ∷ rest) (and_from (is_printed (digit_glyph false (n % 16))) (list_all is_printed rest) glyph.0 h) in
     (more.0, more.1 ∙ rw glyph.1 (omega arith))
 
--- the last k hexadecimal digits of a number are a text, of k + 2 bytes when quoted
+-- the last k hexadecimal digits of a number are printable, and take k + 2 bytes in quotes
 low-quoted : (k n : ℕ) → IsText (low k n []) × (length (quoted (low k n [])) ≡ k + 2)
 low-quoted k n = let plain = low-plain k n [] refl in (plain.0, omega (arith, plain.1, length-append (escape (low k n [])) (34 ∷ [])))
 
--- sixteen digits and their quotes
+-- the sixteen hexadecimal digits of a match word are printable, and take 18 bytes in quotes
 word-text : (word : ℕ) → IsWord word → IsText (hex_digits word) × (length (quoted (hex_digits word)) ≡ 18)
 word-text word is = let below = word_below word is in rw (word-digits word (omega arith)) (low-quoted 16 word)
 
--- behind an element the words of an array take at most 19 bytes each, with the quotes and the comma, and a bracket
+-- match words that come later in an array are plain values, and take at most 19 bytes each, with quotes and comma, and one for the bracket
 later-words : (words : List ℕ) → All IsWord words → ArePlain 125 (word_items words) × (items_size true (word_items words) ≤ 1 + 19 * length words)
 later-words [] are = (tt, omega arith)
 later-words (word ∷ words) are =
@@ -118,7 +123,7 @@ club-plain club h =
     let few = leb-true (length club.name) 20 r.1 in
     record { name = q.1; short = few; coefficient = leb-true club.coefficient 999999 p.1; in_quotes = omega (arith, few, quoted-length club.name q.1) }
 
--- the club in a slot of a roster is such a club
+-- the club in a slot of a roster has a printable name, of at most 42 bytes in quotes, and a coefficient of at most 999,999
 pub slot-plain : (clubs : List NamedClub) → IsRoster clubs → (slot : ℕ) → IsSlot slot → IsPlainClub (club_in clubs slot)
 slot-plain clubs is slot h =
     let four = is.four in let low = h.0 in let high = h.1 in

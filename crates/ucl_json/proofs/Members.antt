@@ -54,7 +54,7 @@ module _ {T : Type 0} (parsed : Data → Option T) where
   pub just-each : (n : ℕ) (values : List Value) → length values ≡ n → just n parsed (map view values) ≡ parse_each parsed (map view values)
   just-each n values long = rw (length-map values view, long, eq-eqb n n refl) refl
 
--- a result that is Ok, and x if it is Ok, is x as an option
+-- a result that is `Ok` with the value x is `Some x` as an option
 pub inner-ok : {A E : Type 0} (r : Result A E) (x : A) → IsOk r → IfOk r (λ a. a ≡ x) → result_ok r ≡ Some x
 inner-ok {A} (Ok a) x ok e = ap (λ (y : A). Some y) e
 inner-ok (Err f) x ok e = absurd (search rules)

@@ -75,11 +75,12 @@ escaped (x ∷ s) = both (escape_byte x) (escape s) byte (escaped s)
 in-quotes : (s : List ℕ) → ArePrinted (quoted s)
 in-quotes s = both (escape s) (34 ∷ []) (escaped s) refl
 
--- no byte is below the space in a comma before an element, the text of a value, and those of its items and members
+-- no byte is below the space in the comma before an element of JSON, which is there if the element comes later
 comma : (later : Bool) → ArePrinted (comma_if later)
 comma true = refl
 comma false = refl
 
+-- no byte of the text of a value is below the space, nor any of those of its items and members
 mutual
   printed : (d : Data) → ArePrinted (compact_text d)
   printed null = refl

@@ -36,18 +36,18 @@ module _ {T : Type 0} (value_of : T → Data) where
   pub all-items : (values : List Value) (xs : List T) (i : ℕ) → length xs ≤ i → items_view values ≡ items_of value_of (take i xs) → items_view values ≡ items_of value_of xs
   all-items values xs i h e = e ∙ ap (items_of value_of) (take_all i xs h)
 
--- the item of the next match, which has the number n
+-- the JSON items of the first n - 1 matches, with that of match n added, are the items of the first n matches
 pub next-match : (board : List ℕ) (xs ys : List Value) (v : Value) (n game : ℕ) → 1 ≤ n → n ≤ 12 → game ≡ n → items_view xs ≡ match_items board (take (n - 1) match_numbers)
     → view v ≡ match_value game (game_at board game) → ys ≡ xs ++ v ∷ [] → items_view ys ≡ match_items board (take (n + 1 - 1) match_numbers)
 next-match board xs ys v n game low high is so_far now e =
     let at : n + 1 - 1 ≡ n - 1 + 1 = omega arith in
     rw at (next-item (λ (g : ℕ). match_value g (game_at board g)) xs ys v match_numbers (n - 1) 0 (omega arith) so_far (rw (match-numbered n low high, ← is) now) e)
 
--- after the twelfth they are those of all matches
+-- the JSON items of the first n - 1 matches are those of all matches, if n is 13
 pub all-matches : (board : List ℕ) (xs : List Value) (n : ℕ) → n ≡ 13 → items_view xs ≡ match_items board (take (n - 1) match_numbers) → items_view xs ≡ match_items board match_numbers
 all-matches board xs n last e = rw last at e
 
--- a value with two members more, one put after the other
+-- a value that is given a member under the name k, and then one under n, is the value with both members
 pub both_members : (n k : List ℕ) {whole second mid first base m d b : Data} → whole ≡ with_member n second mid → second ≡ m → mid ≡ with_member k first base → first ≡ d → base ≡ b
     → whole ≡ with_member n m (with_member k d b)
 both_members n k p q r s t = rw (p, q, r, s, t) refl
@@ -57,7 +57,7 @@ pub record AreFlat (ds : Items) (n : ℕ) : Type 0 where
   pub whole : items_have_float ds ≡ false
   pub shallow : items_depth ds ≤ n
 
--- if no value is nested deeper than n or has a float, no items of such values are
+-- if the JSON value of each x has no float and is nested at most n deep, so it is for the items made from any list
 pub items-flat : {T : Type 0} (value_of : T → Data) (n : ℕ) → ((x : T) → (has_float (value_of x) ≡ false) × (depth (value_of x) ≤ n)) → (xs : List T) → AreFlat (items_of value_of xs) n
 items-flat value_of n each [] = record { whole = refl; shallow = omega arith }
 items-flat value_of n each (x ∷ xs) =

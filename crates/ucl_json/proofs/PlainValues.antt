@@ -19,7 +19,7 @@ use Rattle.serde_json.proofs.Numbers.{number_of-decimal, number_of-negative}
 use Rattle.serde_json.proofs.Texts.{print-outline}
 use Rattle.ucl_json.proofs.Members.{was-read}
 
--- a text that is written as it is, but for quotes and backslashes: all its bytes are printed
+-- all bytes of a text are printable ASCII: JSON writes it as it is, but for quotes and backslashes
 abbrev pub IsText : List ℕ → Type 0
 IsText s = list_all is_printed s ≡ true
 
@@ -29,12 +29,12 @@ IsPlainNumber (unsigned n) = n < 2 ^ 64
 IsPlainNumber (negative (negsuc n)) = suc n < 2 ^ 63
 IsPlainNumber _ = ⊥
 
--- members that are put to others, one after the other
+-- the members `found`, with those of the first list put to them one after the other
 abbrev put_all : Members → Members → Members
 put_all no_members found = found
 put_all (member k d ms) found = put_all ms (put k d found)
 
--- whether the names of all members are such texts
+-- whether the names of all members have only printable bytes
 abbrev have_texts : Members → Bool
 have_texts no_members = true
 have_texts (member k d ms) = list_all is_printed k && have_texts ms
@@ -105,11 +105,12 @@ reads d h =
     ap (json.value 127) (same ∙ sym (append-nil (tree.json_tokens (outline d)))) ∙ value-json_tokens (outline d) 127 [] back.2 in
     rw whole back.0
 
--- the comma before an element, if there is one, the text of a plain value, and those of its items and members are UTF-8
+-- the comma before an element of JSON, which is there if the element comes later, is UTF-8
 comma : (later : Bool) → IsUtf8 (comma_if later)
 comma true = IsUtf8-are_ascii (44 ∷ []) refl
 comma false = IsUtf8-nil
 
+-- the text of a plain value is UTF-8, and so are those of its items and members
 mutual
   value-utf8 : (deep : ℕ) (d : Data) → IsPlain deep d → IsUtf8 (compact_text d)
   value-utf8 deep (number (unsigned n)) h = IsUtf8-from_ascii (decimal n) (IsAscii-decimal n h)
@@ -133,7 +134,7 @@ mutual
       (IsUtf8-append (58 ∷ []) rest (IsUtf8-are_ascii (58 ∷ []) refl)
       (IsUtf8-append (compact_text d) (members_text true ms) (value-utf8 deep d h.0) (members-utf8 deep true ms p.1 h.1))))
 
--- of a text: at most two bytes for each of its own, since a quote and a backslash have a backslash before them
+-- JSON writes a byte that is the space or above it as at most two bytes, since a quote and a backslash get a backslash before them
 one-byte : (x : ℕ) → 32 ≤ x → length (escape_byte x) ≤ 2
 unfolding escape_byte
 one-byte x h = elim (cases_eq x 34) [
@@ -195,10 +196,10 @@ pub record IsShortPlain (d : Data) : Type 0 where
   pub plain : IsPlain 127 d
   pub size : size d ≤ 4096
 
--- the text of such a value is short enough to be read
+-- the text of a short plain value has at most 4,096 bytes, so that it can be read as a line
 pub line-short : (d : Data) → IsShortPlain d → length (compact_text d) ≤ 4096
 line-short d h = rw (sized d) h.size
 
--- the board state that it tells as a line is the one that it tells as a value
+-- the board state that is read from the text of a short plain value, as a line, is the one that is read from the value itself
 pub parsed-line : (d : Data) → IsShortPlain d → parse_board_line (compact_text d) ≡ parse_board_state d
 parsed-line d h = sym (was-read (compact_text d) d (line-short d h) (value-utf8 127 d h.plain) (reads d h.plain))

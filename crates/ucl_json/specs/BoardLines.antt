@@ -1,7 +1,5 @@
--- The board state that a line of JSON tells.
--- Its members `group`, `order` (the tie-break order of the clubs, or profile), `edition` (how often the board was begun again; 0 without
--- it), `clubs` and `words` (each a match packed into 64 bits) are read, in whichever order; others are passed over. `Data` is a value
--- of JSON; None says that a member is missing or is not what it should be.
+-- The board state that a line of JSON tells; members of other names are passed over. `Data` is a value of JSON; None says that a member is
+-- missing or is not what it should be.
 use Rattle.std.specs.Prelude.{ℕ, ◌==◌, ◌&&◌, nat_le, if◌then◌else◌, List, [], ◌∷◌, codes, length, Option, Some, None, option_and_then, Result, Ok, Err}
 use Rattle.std.specs.Str.{is_utf8}
 use Rattle.serde_json.specs.Data.{Data, Items, item, no_items}

@@ -34,7 +34,7 @@ mended_value row left_out header board roster = object (
     member (codes "version") (number_value (version_of board)) (
     member (codes "words") (array (word_items board)) no_members)))))))))
 
--- the same with the row whose event the mend takes back, if it names one
+-- the answer `value` to a mend, with the row whose event the mend takes back as its member `without`, if the mend names a row
 abbrev pub mended_with : Option ℕ → Data → Data
 mended_with None value = value
 mended_with (Some row) value = with_member (codes "without") (number_value row) value

@@ -1,7 +1,4 @@
 -- Answers to rows as values of JSON; `row` is the number of the row. The members of an object stand in the order of their names.
--- A board is given as its twelve words, each a match packed into 64 bits. The reply to an accepted event and a screen have a whole board
--- state: the group, the tie-break order (profile), the edition (how often the board was begun again), the clubs and the words.
--- An event is stale if its match has another event number than it expects. A bad row is neither an event nor a request.
 use Rattle.std.specs.Prelude.{ℕ, pos, ◌-ℤ◌, List, [], ◌∷◌, codes, Option, None, Some, Result, Ok, Err}
 use Rattle.serde_json.specs.Data.{Data, Items, item, no_items, member, no_members, array, boolean, null, number, object, put, string, unsigned}
 use Rattle.serde_json.specs.Find.{of_integer}

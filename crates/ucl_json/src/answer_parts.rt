@@ -1,5 +1,4 @@
-//! What several answers in JSON have among their members: the clubs of a group, the matches of its board as they stand, and its words, each
-//! a match packed into 64 bits. A value is one of JSON. `Err` says that there is no memory.
+//! What several answers in JSON have among their members: clubs, matches and words. `Err` says that there is no memory.
 
 ghost use Rattle.std.specs.Prelude.{◌≡◌, ◌≤◌, [], ◌∷◌, IfOk};
 ghost use Rattle.serde_json.specs.Data.{string};
@@ -7,7 +6,7 @@ ghost use Rattle.serde_json.specs.View.{items_view, view};
 ghost use Rattle.ucl_board.specs.Fixtures.{IsSlot, match_numbers};
 ghost use Rattle.ucl_screen.specs.Numbers.{hex_digits};
 ghost use Rattle.ucl_screen.specs.Screen.{IsGroup};
-ghost use Rattle.ucl_json.specs.Values.{club_items, club_value, match_items, match_value, word_items};
+ghost use Rattle.ucl_json.specs.Values.{club_items, club_value, match_items, match_value, sides_value, word_items};
 
 use serde_json::{Value, json};
 use std::alloc::{AllocError, Global};
@@ -72,6 +71,13 @@ pub(crate) fn word_values(alloc: Global, words: &[u64]) -> Result<Vec<Value>, Al
     Ok(values)
 }
 
+/// Returns two counts as a value, first that of the home side.
+fn sides_value(alloc: Global, home: u8, away: u8) -> Result<Value, AllocError>
+    ensures { IfOk result (λ value. view value ≡ sides_value home away) }
+{
+    json!(in alloc; [home, away])
+}
+
 /// Returns a match as a value: `game` is its number among the twelve, and `stands` what has happened in it so far.
 pub(crate) fn match_value(
     alloc: Global,
@@ -84,9 +90,9 @@ pub(crate) fn match_value(
         "match": game.get(),
         "number": stands.number,
         "state": state_name(stands.state),
-        "score": [stands.home_goals, stands.away_goals],
-        "yellows": [stands.home_yellows, stands.away_yellows],
-        "expulsions": [stands.home_expulsions, stands.away_expulsions],
+        "score": sides_value(alloc, stands.home_goals, stands.away_goals)?,
+        "yellows": sides_value(alloc, stands.home_yellows, stands.away_yellows)?,
+        "expulsions": sides_value(alloc, stands.home_expulsions, stands.away_expulsions)?,
         "reporter": stands.reporter
     })
 }

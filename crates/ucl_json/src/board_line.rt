@@ -1,5 +1,4 @@
-//! Reads a board state from a line of JSON: group, tie-break order of the clubs, edition (how often the board was begun again), clubs, and
-//! the twelve match words, each a match packed into 64 bits. `None` says that a member is missing or is not what it should be.
+//! Reads a board state from a line of JSON. `None` says that a member is missing or is not what it should be.
 
 ghost use Rattle.std.specs.Prelude.{◌≡◌, ◌<◌, ◌≤◌, [], ◌∷◌, Some, IfErr, IfOk, IfSome, length, map, option_map};
 ghost use Rattle.serde_json.specs.View.{items_view, view};

@@ -1,4 +1,4 @@
-//! `BoardHeader`: of which group a board is, which tie-break order ranks its clubs, and how often the board was begun again.
+//! `BoardHeader`: of which group a board is, which profile orders its clubs, and its edition.
 
 use ucl_order::Profile;
 

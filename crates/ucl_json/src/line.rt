@@ -27,7 +27,8 @@ pub(crate) fn with_member(
     }
 }
 
-/// Formats a value of JSON as text on one line, which ends with a line feed. It has no float, and is nested no deeper than can be read back.
+/// Formats a value of JSON as text on one line, which ends with a line feed. The value has no float, and is nested no deeper than can be
+/// read back.
 #[tactic(auto, using(crate::proofs::OneLine::line_is_one))]
 pub(crate) fn format_line(alloc: Global, value: &Value) -> Result<String, AllocError>
     requires { IsFlat (view value.now) }

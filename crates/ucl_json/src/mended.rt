@@ -1,5 +1,5 @@
-//! The lines of JSON that answer a mend, which takes an accepted event back, names a later edition or puts a club in its slot: each event
-//! that the rules then refuse, the board after the mend, or why the mend is refused. `row` is the number of a row.
+//! The lines of JSON that answer a mend: each event that the rules then refuse, the board after the mend, or why the mend is refused. `row`
+//! is the number of a row.
 
 ghost use Rattle.std.specs.Prelude.{◌≡◌, IfOk, string_bytes};
 ghost use Rattle.serde_json.specs.View.{view};
@@ -79,8 +79,6 @@ fn mended_value(alloc: Global, reply: &MendReply<'_>) -> Result<Value, AllocErro
         reply.now.header reply.now.board.now reply.now.roster.now) }
 {
     let header = reply.header;
-    let clubs = club_values(alloc, reply.roster)?;
-    let words = word_values(alloc, reply.board.words().as_slice())?;
     json!(in alloc; {
         "row": reply.row,
         "reply": "mended",
@@ -89,8 +87,8 @@ fn mended_value(alloc: Global, reply: &MendReply<'_>) -> Result<Value, AllocErro
         "group": letter_of(header.group),
         "order": header.profile.name(),
         "edition": header.edition,
-        "clubs": clubs,
-        "words": words
+        "clubs": club_values(alloc, reply.roster)?,
+        "words": word_values(alloc, reply.board.words().as_slice())?
     })
 }
 

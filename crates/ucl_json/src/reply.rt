@@ -1,6 +1,5 @@
-//! The lines of JSON that answer rows: the reply to an event or to a bad row, which is no event and no request; the board's words, each
-//! a match packed into 64 bits; and its matches. `row` is the number of the row. `Err` says that there is no memory. An event is refused as
-//! stale if its match has another event number than it expects.
+//! The lines of JSON that answer rows: the reply to an event or to a bad row, the board's words, and its matches. `row` is the number of
+//! the row. `Err` says that there is no memory.
 
 ghost use Rattle.std.specs.Prelude.{◌≡◌, IfOk, string_bytes};
 ghost use Rattle.serde_json.specs.View.{view};
@@ -50,8 +49,6 @@ fn accepted_value(alloc: Global, reply: &EventReply<'_>, number: u16) -> Result<
         header,
         ..
     } = *reply;
-    let clubs = club_values(alloc, reply.roster)?;
-    let words = word_values(alloc, reply.board.words().as_slice())?;
     json!(in alloc; {
         "row": row,
         "reply": "ok",
@@ -64,8 +61,8 @@ fn accepted_value(alloc: Global, reply: &EventReply<'_>, number: u16) -> Result<
         "group": letter_of(header.group),
         "order": header.profile.name(),
         "edition": header.edition,
-        "clubs": clubs,
-        "words": words
+        "clubs": club_values(alloc, reply.roster)?,
+        "words": word_values(alloc, reply.board.words().as_slice())?
     })
 }
 
@@ -185,9 +182,12 @@ fn matches_value(
 ) -> Result<Value, AllocError>
     ensures { IfOk result (λ value. view value ≡ matches_value row board.now roster.now) }
 {
-    let matches = match_values(alloc, board)?;
-    let clubs = club_values(alloc, roster)?;
-    json!(in alloc; {"row": row, "reply": "matches", "matches": matches, "clubs": clubs})
+    json!(in alloc; {
+        "row": row,
+        "reply": "matches",
+        "matches": match_values(alloc, board)?,
+        "clubs": club_values(alloc, roster)?
+    })
 }
 
 /// Returns the line of the answer with the twelve matches of a board as they stand, and the clubs that play them.

@@ -1,5 +1,4 @@
-//! The screen of a board as JSON: the table of its group as it stands, the clubs, and the words, each a match packed into 64 bits.
-//! `row` is the number of the row that asks for the screen. `Err` says that there is no memory.
+//! The screen of a board as JSON. `row` is the number of the row that asks for it. `Err` says that there is no memory.
 
 ghost use Rattle.std.specs.Prelude.{◌≡◌, ◌≤◌, ◌-ℤ◌, pos, All, [], ◌∷◌, IfOk, length, string_bytes};
 ghost use Rattle.serde_json.specs.View.{items_view, view};
@@ -84,9 +83,6 @@ fn screen_value(
     ensures { IfOk result (λ value. view value
         ≡ screen_value row profile board.now roster.now group) }
 {
-    let table = place_values(alloc, &standings(board, roster, profile), roster)?;
-    let clubs = club_values(alloc, roster)?;
-    let words = word_values(alloc, board.words().as_slice())?;
     json!(in alloc; {
         "row": row,
         "reply": "screen",
@@ -94,9 +90,9 @@ fn screen_value(
         "order": profile.name(),
         "version": board.version(),
         "in_play": matches_in_play(board),
-        "table": table,
-        "clubs": clubs,
-        "words": words
+        "table": place_values(alloc, &standings(board, roster, profile), roster)?,
+        "clubs": club_values(alloc, roster)?,
+        "words": word_values(alloc, board.words().as_slice())?
     })
 }
 

@@ -34,7 +34,7 @@ view_at [] j below = absurd (omega arith)
 view_at (v ∷ views) zero below = (v, refl)
 view_at (v ∷ views) (suc j) below = view_at views j (omega arith)
 
--- a seat that is not there took no step
+-- a seat from n on took no step, if all steps of the log are of seats below n
 pub none_beyond : (n j : ℕ) (log : Log) → n ≤ j → All (λ (x : Logged). x.seat < n) log → taken_by j log ≡ []
 none_beyond n j log le all = taken_none j log (below_more n j log le all)
 

@@ -10,7 +10,7 @@ use Rattle.ucl_live_board.specs.LiveRecords.{LiveMet}
 use Rattle.ucl_live_board.specs.Passes.{Enlistment}
 use Rattle.ucl_live_board.proofs.StepFacts.{Goes, Sees, Adds, GivesNumber, sound}
 
--- no steps lead from a view to itself
+-- the empty list of steps leads from a view to itself
 pub takes_none : (v : View) → Takes v [] v
 takes_none v = record { own = sym (append-nil v.own); copied = refl }
 
@@ -18,7 +18,7 @@ takes_none v = record { own = sym (append-nil v.own); copied = refl }
 pub takes_on : (u v w : View) (xs ys : List Taken) → Takes u xs v → Takes v ys w → Takes u (xs ++ ys) w
 takes_on u v w xs ys a b = record { own = b.own ∙ (ap (λ (l : List Taken). l ++ ys) a.own ∙ append_assoc u.own xs ys); copied = b.copied ∙ a.copied }
 
--- after steps a view has so many more
+-- a pass that took the steps xs counts `length xs` steps more
 pub takes_count : (v w : View) (xs : List Taken) → Takes v xs w → count_of w ≡ count_of v + length xs
 takes_count v w xs t = search (arith, length-append v.own xs, length-append v.copied v.own, length-append w.copied w.own)
 
@@ -34,7 +34,7 @@ pub record Stays (v w : View) : Type 0 where
 pub stays_none : (v : View) → Stays v v
 stays_none v = record { seen = begins_same (history_of v.log); listed = le_refl (enlisted_by v.log); share = refl; mine = refl; number = refl }
 
--- a pass that stays from v to w, and then takes a step that adds no entry and gives no number, stays from v
+-- if a pass entered nothing and got no number from v to w, nor by the one step that led it from w to u, so it is from v to u (`Stays`)
 pub stays_more : (v w u : View) (target : Target) → Stays v w → Sees target w u → Stays v u
 stays_more v w u target t sees = search (arith, begins_through)
 

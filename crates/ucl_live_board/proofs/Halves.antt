@@ -7,7 +7,7 @@ use Rattle.ucl_live_board.proofs.Common.{begins_through, Share, whole, half_of, 
 pub overlap_swap : (s t : Share) → Overlap s t → Overlap t s
 overlap_swap s t o = search arith
 
--- a beginning of a path and the path without its last turn: one of them begins the other
+-- if b is a prefix of a path (a list of halves) with one half more at its end, one of b and the path is a prefix of the other
 comparable : (b rest path : List Bool) (side : Bool) → b ++ rest ≡ path ++ side ∷ [] → IsPrefix path b ⊎ IsPrefix b path
 comparable [] rest path side is = inr (begins_none path)
 comparable (x ∷ b) rest [] side is = inl (begins_none (x ∷ b))
@@ -23,7 +23,7 @@ half_overlaps side (Some path) (Some b) o = ⊎_elim
 half_overlaps side (Some path) None o = absurd o
 half_overlaps side None t o = absurd o
 
--- a path that goes on behind one turn, and is equal to one that ends with a turn at the same place, takes the same turn there
+-- if a path (a list of halves), then the half a, then more, is equal to the same path and then the half b, then a is b
 one_turn : (path rest : List Bool) (a b : Bool) → (path ++ a ∷ []) ++ rest ≡ path ++ b ∷ [] → a ≡ b
 one_turn [] rest a b is = cc
 one_turn (x ∷ path) rest a b is = one_turn path rest a b (cc)
@@ -32,10 +32,11 @@ one_turn (x ∷ path) rest a b is = one_turn path rest a b (cc)
 pub halves_apart : (s : Share) → Overlap (second_half s) (first_half s) → ⊥
 halves_apart s o = search (arith, true≢false, one_turn)
 
--- a path that ends with a turn is not empty
+-- a path with a half at its end is not empty
 no_end : (path : List Bool) (side : Bool) → path ++ side ∷ [] ≡ [] → ⊥
 no_end path side is = let l = ap length is in omega (arith, length-append path (side ∷ []))
 
+-- if two shares `Some a` and `Some b` are equal, so are their paths
 some_same : (a b : List Bool) → Some a ≡ Some b → a ≡ b
 some_same a b is = cc
 

@@ -117,7 +117,7 @@ fits_kept log seat v u log_is told own share f = record {
   idle = λ none. own ∙ f.idle (share none);
 }
 
--- a view that was told a note's log fits, if that begins this log too: the longer of two beginnings has all own steps
+-- if a view fits a log, it fits after it took in a note whose log is a prefix of this log: it then knows the longer of two prefixes
 fits_told : (log : Log) (seat : ℕ) (v note : View) → ViewInvariant log seat v → IsPrefix note.log log → ViewInvariant log seat (told_pass v note)
 fits_told log seat v note f theirs = record {
   knows = by_length (nat_lt (length v.log) (length note.log));

@@ -10,7 +10,7 @@ use Rattle.std.proofs.lemmas.Bool.Decides.{eqb_tells, nat_tests}
 use Rattle.ucl_board.specs.declared.reading.Reading.{Reading}
 use Rattle.ucl_live_board.specs.Settling.{AreAlone, both_accepted, Settled, IsOfBoth}
 
--- what a longer history has of one reporter, and what it has more
+-- the entries of one reporter in a history are those in a prefix of it, and then those in the rest
 pub by_more : (n : ℕ) (s h : List Entry) (p : IsPrefix s h) → entries_by n h ≡ entries_by n s ++ entries_by n p.0
 by_more n s h p = ap (entries_by n) (sym p.1) ∙ filter-append (λ (e : Entry). e.reporter == n) s p.0
 
@@ -34,11 +34,11 @@ few_mine k s =
     let o = ap length s.own in
     omega arith
 
--- a sound pass that no call changed holds all that a pass keeps over a call
+-- a sound pass that is unchanged has seen no less, and has its share and number, as after each call (`Continues`)
 pub unchanged : (k m : PassView) → IsSound k → m ≡ k → Continues k m
 unchanged k m sound same = subst (Continues k) (sym same) (record { sound = sound; on = record { seen = begins_same k.seen; listed = le_refl k.listed; share = refl }; number = refl })
 
--- what always holds of a pass holds over two calls
+-- if after each of two calls a pass is sound, has seen no less, and has its share and number, so it is over both (`Continues`)
 pub goes_on : (k m z : PassView) → Continues k m → Continues m z → Continues k z
 goes_on k m z a b = search (arith, begins_through)
 

@@ -73,7 +73,7 @@ count_reporters words_after May legal words views r =
           (λ entry ranked. ranked.1) (history_of r.log) facts.ranked;
     }
 
--- each step is of a seat that took one
+-- if P holds of each seat that took a step of the log, P holds of the seat of each step of the log
 all_of : (P : ℕ → Type 0) (log : Log) → ((j : ℕ) → taken_by j log ≢ [] → P j) → All (λ (x : Logged). P x.seat) log
 all_of P [] each = All-nil (λ (x : Logged). P x.seat)
 all_of P (x ∷ log) each = All-cons (λ (y : Logged). P y.seat) x log (each x.seat (some_here x.seat x.step log))
@@ -99,7 +99,7 @@ module _ (words_after : List Entry → ℕ → List ℕ) (May : Log → Logged �
   acting : (n : ℕ) → Covers views held n [] → (j : ℕ) → taken_by j r.log ≢ [] → IsTrue (held j)
   acting n make j any = let u = seat_there words_after May words views r j any in holds n [] make j u.0 u.1 (in_whole u.0.share u.2)
 
--- under a legal rule the passes at such seats took all steps and have all numbers of reporters
+-- under a legal rule passes whose shares together are the whole board took all steps and have all numbers of reporters
 pub did_all : (words_after : List Entry → ℕ → List ℕ) (May : Log → Logged → Type 0) → IsLegalRule May → HoldersDidAll words_after May
 did_all words_after May legal words views r held n make = record {
   steps = all_of (λ j. IsTrue (held j)) r.log (acting words_after May words views r held n make);

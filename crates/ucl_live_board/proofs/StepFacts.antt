@@ -13,8 +13,8 @@ use Rattle.ucl_board.proofs.Logs.{log_facts, legal_history}
 use Rattle.ucl_live_board.proofs.Lists.{none_by_zero}
 use Rattle.ucl_live_board.proofs.Alone.{whole_is_alone}
 
--- what each step leaves: a legal history, a log in which all stands first that the pass had known or been told, and the share by
--- which it acts; with the whole board it is alone
+-- what each step of a pass, from the view v to w, leaves: the pass knows a legal history, and a log that begins with all that it had known
+-- or been told; it keeps its share, by which it acts; and if that is the whole board, all entries are its own, and no other was enlisted
 pub record Goes (v w : View) : Type 0 where
   pub legal : IsLegal (history_of w.log)
   pub log : IsPrefix v.log w.log
@@ -32,7 +32,7 @@ pub record Goes (v w : View) : Type 0 where
 pub sound : (shown : List Taken → List ℕ) (v w : View) → Goes v w → IsSound (pass_view_by shown w)
 sound shown v w goes = search arith
 
--- a step that added no entry and gave no number: what it looked at is there afterwards too
+-- a step on this target, from v to w, that added no entry and gave no number: what it found there is there after it too
 pub record Sees (target : Target) (v w : View) : Type 0 where
   pub goes : Goes v w
   pub place : ℕ
@@ -41,7 +41,7 @@ pub record Sees (target : Target) (v w : View) : Type 0 where
   pub mine : added_by w.own ≡ added_by v.own
   pub number : number_of w.own ≡ number_of v.own
 
--- a step that added this entry: it is the last that the pass has seen, after this log
+-- a step on this target, from v to w, that added the entry e: it is the last that the pass has then seen, after the history of `before`
 pub record Adds (target : Target) (e : Entry) (v w : View) : Type 0 where
   pub before : Log
   pub last : history_of w.log ≡ followed_by (history_of before) e
@@ -53,7 +53,7 @@ pub record Adds (target : Target) (e : Entry) (v w : View) : Type 0 where
   pub mine : added_by w.own ≡ followed_by (added_by v.own) e
   pub number : number_of w.own ≡ number_of v.own
 
--- an enlistment, where so many were enlisted: the pass is a reporter's, with the number after it
+-- the step that enlists a pass: it found `found` reporters enlisted, and gave the pass the number found + 1; the pass has no entry yet
 pub record GivesNumber (found : ℕ) (v w : View) : Type 0 where
   pub goes : Goes v w
   pub place : ℕ
@@ -63,7 +63,7 @@ pub record GivesNumber (found : ℕ) (v w : View) : Type 0 where
   pub number : number_of w.own ≡ found + 1
   pub mine : added_by w.own ≡ []
 
--- a history is equal to a longer one that is no more than the entries of one reporter in it
+-- if a history h is a prefix of p, and the entries of one reporter in h are all of p, then h is p
 all_seen : (n : ℕ) (h p : List Entry) → IsPrefix h p → entries_by n h ≡ p → h ≡ p
 all_seen n h p b is =
     let d = length-filter_both (λ (e : Entry). e.reporter == n) (λ (e : Entry). not (e.reporter == n)) (λ _. refl) h in

@@ -1,7 +1,5 @@
--- The invariant of every shared board: what holds of its words and passes between any two steps. The log is the list of all steps so far,
--- and the history that of their entries (accepted events). Each pass, a thread's permission, has a seat, its place in the list of passes;
--- its view is what contracts see of it; its share is its part of the board; it is enlisted if it has a reporter's number. `words_after`
--- says what a board's words are, after a history and so many enlistments, and `May` which step may come next.
+-- The invariant of every shared board: what holds of its words and passes between any two steps. `words_after` says what a board's words
+-- are after a history and so many enlistments, and `May` which step may come next.
 use Rattle.std.specs.Prelude.{◌≡◌, ◌⊎◌, ℕ, zero, suc, ◌<◌, ◌≤◌, Bool, true, false, List, [], ◌∷◌, ◌++◌, map, All, length, slice_set, Some, None, IsTrue}
 use mathlib.Core.List.{IsPrefix}
 use mathlib.Core.Option.{some}
@@ -22,8 +20,9 @@ pub record ViewInvariant (log : Log) (seat : ℕ) (view : View) : Type 0 where
   pub own : (view.own ≡ taken_by seat view.log) × (view.own ≡ taken_by seat log)
   pub idle : view.share ≡ None → view.own ≡ []
 
--- the invariant of a board with these words and views: there is one log of all steps, each of which May lets come next; the words are those
--- after its history; all views fit it; only seats in the list took steps; and no two passes have shares that overlap
+-- the invariant of a board with these words and views: there is one log of all steps, and `May` allows each step after those before it; the
+-- words are those that `words_after` gives of its history; all views fit the log (what each pass knows of it is a prefix, and its own steps
+-- are those of its seat there); only seats in the list took steps; and no two passes have shares that overlap
 pub record BoardInvariant (words_after : List Entry → ℕ → List ℕ) (May : Log → Logged → Type 0) (words : List ℕ) (views : List View) : Type 0 where
   pub log : Log
   pub is_log : IsLog log
@@ -62,8 +61,8 @@ PassesSeePrefixes words_after May =
     (words : List ℕ) (views : List View) (r : BoardInvariant words_after May words views) (seat : ℕ) (v : View) → get_elem? views seat ≡ some v
     → IsPrefix (history_of v.log) (history_of r.log)
 
--- these words are those after this history and so many enlistments, at most 255; and no number is greater than that: of a pass with one of
--- these views, of the reporters that it has seen enlisted, of an entry of the history
+-- the words are those after this history with `enlisted` reporters, at most 255; no pass with one of these views has a number above that,
+-- or has seen more reporters enlisted; and no entry of the history has a reporter's number above it
 pub record CountsAllReporters (words_after : List Entry → ℕ → List ℕ) (words : List ℕ) (views : List View) (history : List Entry) : Type 0 where
   pub enlisted : ℕ
   pub words_are : words ≡ words_after history enlisted
@@ -72,7 +71,7 @@ pub record CountsAllReporters (words_after : List Entry → ℕ → List ℕ) (w
   pub listed : (seat : ℕ) (v : View) → get_elem? views seat ≡ some v → enlisted_by v.log ≤ enlisted
   pub reporters : All (λ (entry : Entry). entry.reporter ≤ enlisted) history
 
--- if the invariant holds, the words count the reporters
+-- if the invariant holds, the words say how many reporters are enlisted, at most 255, and no pass and no entry has a number above that
 abbrev pub WordsCountReporters : (List Entry → ℕ → List ℕ) → (Log → Logged → Type 0) → Type 0
 WordsCountReporters words_after May =
     (words : List ℕ) (views : List View) (r : BoardInvariant words_after May words views) → CountsAllReporters words_after words views (history_of r.log)

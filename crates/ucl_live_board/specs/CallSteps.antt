@@ -1,6 +1,4 @@
--- Which steps a call on any shared board takes. The log is the list of all steps of all passes, threads' permissions on the board. A view
--- is what contracts see of a pass: the prefix of the log that it knows, its own steps, and a copy of those of the passes that it was split
--- off from. To enlist a pass is to make it a reporter's, with a number. `v` is the view before the call, and `w` after it.
+-- Which steps a call on any shared board takes. `v` is the view before the call, and `w` after it.
 use Rattle.std.specs.Prelude.{◌≡◌, ◌⊎◌, ℕ, List, [], ◌∷◌, length, Option, Some, None, Result, Ok, Err}
 use Rattle.ucl_word.specs.declared.event.EventCall.{EventCall}
 use Rattle.ucl_word.specs.declared.event.Accepted.{Accepted}
@@ -11,7 +9,7 @@ use Rattle.ucl_board.specs.Log.{Access, Match, Enlisted, Enlists, Taken, step_ta
 use Rattle.ucl_live_board.specs.declared.view.View.{View}
 use Rattle.ucl_live_board.specs.Views.{Takes}
 
--- the steps that these accesses (steps on match words) are: the last added this entry to the history, if it is one, the others none
+-- the steps of the log that these accesses (steps on match words) are: the last adds `entry`, if it is not None; the others add none
 abbrev pub steps_with : Option Entry → List Access → List Taken
 steps_with entry [] = []
 steps_with entry (a ∷ []) = step_taken (Match a.kind a.game a.found) a.place a.at entry ∷ []

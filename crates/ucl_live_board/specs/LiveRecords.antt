@@ -1,5 +1,4 @@
--- What each call on any shared board says of its passes, in one record for each call. A pass is a thread's permission on the board, and
--- contracts know a PassView of it: the history (list of accepted events) that it has seen and more. `old` is that of the pass before the
+-- What each call on any shared board says of its passes, in one record for each call. `old` is what contracts know of the pass before the
 -- call, and `new` after it; `Continues` says what holds of a pass after each call.
 use Rattle.std.specs.Prelude.{◌≡◌, Result, IfOk, IfErr}
 use Rattle.ucl_word.specs.declared.event.EventCall.{EventCall}

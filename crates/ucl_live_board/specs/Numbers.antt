@@ -1,5 +1,4 @@
--- Numbers of reporters in the order of time: one that is given later is greater. Each pass, a thread's permission on a shared board, has a
--- seat in the list of all passes; its view is what contracts see of it. To enlist a pass is to give it a reporter's number.
+-- Numbers of reporters in the order of time: one that is given later is greater.
 use Rattle.std.specs.Prelude.{◌≡◌, ℕ, ◌<◌, List}
 use mathlib.Core.Option.{some}
 use lib.ListN.{get_elem?}

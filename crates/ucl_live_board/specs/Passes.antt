@@ -1,7 +1,4 @@
--- What contracts know of a pass, a thread's permission on a shared board, and what each call says of it. What a pass has seen is a history,
--- a list of entries (accepted events); `mine` are its own. A share is a part of the board, without which a pass takes no step; a split
--- halves it. To enlist a reader's pass is to make it a reporter's, with a number from 1. A version says how many entries a reading shows.
--- `old` is what is known of a pass before a call, and `new` after it.
+-- What contracts know of a pass, and what each call says of it: `old` is what is known before the call, and `new` after it.
 use Rattle.std.specs.Prelude.{◌≡◌, ℕ, ◌==◌, ◌<◌, ◌≤◌, List, [], ◌∷◌, ◌++◌, length, filter, IsSome, Ok, Err}
 use mathlib.Core.List.{IsPrefix}
 use Rattle.ucl_word.specs.declared.event.EventCall.{EventCall}

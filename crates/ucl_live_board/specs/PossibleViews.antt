@@ -1,6 +1,4 @@
--- Which views of passes can occur: a view is what contracts see of a pass, a thread's permission on a shared board, and a seat its place in
--- the list of all passes. The board's invariant (BoardInvariant) holds between any two steps, of its words and of the views of all passes;
--- `words_after` says what the words are after a history, and `May` which step may come next.
+-- Which views of passes can occur. `words_after` says what a board's words are after a history, and `May` which step may come next.
 use Rattle.std.specs.Prelude.{◌≡◌, ◌≢◌, ℕ, List}
 use mathlib.Core.Option.{some}
 use lib.ListN.{get_elem?}
@@ -30,7 +28,7 @@ pub record OccurTogether (words_after : List Entry → ℕ → List ℕ) (May : 
   pub apart : other ≢ seat
   pub there : get_elem? views other ≡ some w
 
--- if a pass occurs with the view `old`, two passes occur together with the views `left`, at the same seat, and `second`: a split makes them
--- of it
+-- if some state that satisfies the invariant has a pass with the view `old` at a seat, some such state has `left` at that seat and `second`
+-- at another, as after a split of the pass
 abbrev pub BothOccur : (List Entry → ℕ → List ℕ) → (Log → Logged → Type 0) → View → View → View → Type 0
 BothOccur words_after May old left second = (seat : ℕ) → OccursIn words_after May seat old → OccurTogether words_after May seat left second

@@ -1,7 +1,5 @@
--- What settling says of its answer and of two reporters' passes, their threads' permissions on a shared board: the second is told all that
--- the first has seen, and reads the board. What contracts know of the first and the second pass (its number, the entries, or accepted
--- events, that it has seen, its own ones, `mine`) is a and b before, and c and d after. The answer is the reading, or that there are
--- strangers.
+-- What settling says of its answer and of two reporters' passes. What contracts know of the first and the second pass is a and b before,
+-- and c and d after. The answer is the reading, or that there are strangers.
 use Rattle.std.specs.Prelude.{◌≡◌, ◌≢◌, ◌⊎◌, ◌↔◌, ℕ, ◌+◌, ◌<◌, ◌≤◌, List, [], ◌∷◌, ◌++◌, All, length, take, Result, Ok, Err, IsOk, IfOk, IfErr}
 use mathlib.Core.List.{IsPrefix}
 use Rattle.ucl_board.specs.declared.entry.Entry.{Entry}
@@ -19,8 +17,8 @@ version_answered (Err strangers) = strangers.version
 abbrev pub both_accepted : PassView → PassView → ℕ
 both_accepted a b = length a.mine + length b.mine
 
--- what settling says of the passes and the version that was read: the second pass has seen all that both had seen, the version is at least
--- the length of what each had seen, and neither pass entered an event
+-- what settling says of two passes, with the views a and b before it, c and d after it, and of the version that was read: the second has
+-- then seen all that both had seen, the version is at least the length of what each had seen, and neither entered an event
 pub record Settled (a b c d : PassView) (version : ℕ) : Type 0 where
   pub legal : IsLegal d.seen
   pub first : IsPrefix a.seen d.seen
@@ -41,8 +39,9 @@ pub record IsOfBoth (a b : PassView) (history : List Entry) : Type 0 where
   pub second : entries_by b.number history ≡ b.mine
   pub no_other : All (λ (entry : Entry). (entry.reporter ≡ a.number) ⊎ (entry.reporter ≡ b.number)) history
 
--- all that settling says: it answers the reading exactly if the two numbers differ and its version is the sum of their accepted events, and
--- then each entry is of one of the two; else it answers that there are strangers, with the version
+-- all that settling says of two passes, with the views a and b before it, c and d after it: it answers the reading exactly if their numbers
+-- differ and its version is the sum of their accepted events, and then each entry is of one of the two; else it answers that there are
+-- strangers, with the version
 pub record LiveSettled (a b c d : PassView) (answer : Result Reading Strangers) : Type 0 where
   pub always : Continues a c × Continues b d
   pub unchanged : c ≡ a

@@ -1,10 +1,10 @@
 -- Shares of a board, their halves, and when two overlap.
--- A share is a part of a shared board, without which a pass, a thread's permission, takes no step. The first pass has the whole; a split
--- gives each of two passes a half. A share is written as the path to it: which half of the board, which half of that, and so on.
+-- A share is written as the path to it: which half of the board, which half of that, and so on.
 use Rattle.std.specs.Prelude.{◌⊎◌, Bool, true, false, List, [], ◌∷◌, ◌++◌, Option, Some, None}
 use mathlib.Core.List.{IsPrefix}
 
--- a share of a board, None for a pass that takes no step
+-- a share of a board: Some path, which half of the board it is (false the first, true the second), which half of that, and so on; None, no
+-- share, for a pass that takes no step
 abbrev pub Share : Type 0
 Share = Option (List Bool)
 

@@ -1,6 +1,5 @@
--- What a step on a shared board tells its pass, a thread's permission there. The log is the list of all steps of all passes, and a seat the
--- place of a pass in the list of passes. `v` is the view of the pass (what contracts see of it) before the step, and `w` after it.
--- `words_after` says what a board's words are after a history, and `May` which step may come after a log.
+-- What a step on a shared board tells its pass. `v` is the view of the pass before the step, and `w` after it. `words_after` says what a
+-- board's words are after a history, and `May` which step may come after a log.
 use Rattle.std.specs.Prelude.{◌≡◌, ℕ, List, [], ◌∷◌, ◌++◌, All, IsSome}
 use mathlib.Core.List.{IsPrefix}
 use Rattle.ucl_word.specs.declared.event.EventCall.{EventCall}
@@ -16,8 +15,9 @@ abbrev pub stepped_to : Log → ℕ → Taken → View → View
 stepped_to before seat step v =
     record { log = before ++ logged_by seat step ∷ []; told = []; own = v.own ++ step ∷ []; share = v.share; copied = v.copied }
 
--- the pass of a seat took one step, which looked at this target: the step came after a log in which all stands that the pass had known or
--- been told, as May lets it; the pass has a share, its part of the board; and its view can occur at its seat (OccursIn)
+-- the pass at a seat took one step on this target (which word, what was done and found), and its view v became w: `May` allows the step
+-- after the log `before`, which begins with all that the pass had known or been told; the pass has a share; and some state that satisfies
+-- the invariant has w at the seat
 pub record BoardStep (words_after : List Entry → ℕ → List ℕ) (May : Log → Logged → Type 0) (seat : ℕ) (target : Target) (v w : View) : Type 0 where
   pub before : Log
   pub is_log : IsLog before

@@ -1,6 +1,4 @@
--- Views of passes. A pass is a thread's permission on a shared board; its view is what it knows and has done: a prefix of the log of all
--- steps, its own steps, and a copy of those of the passes that it was split off from. A note is a pass that only carries what another knows
--- to a meeting, at which a second pass takes that in. A share is a pass's part of the board.
+-- Views of passes: what a pass knows and has done.
 use Rattle.std.specs.Prelude.{◌≡◌, ℕ, List, [], ◌∷◌, ◌++◌, None, length, nat_lt, if◌then◌else◌}
 use Rattle.ucl_board.specs.Log.{Access, Taken, Log, added_by, number_of, history_of, enlisted_by, accesses_in}
 use Rattle.ucl_live_board.specs.declared.view.View.{View}
@@ -22,7 +20,7 @@ pass_view_by shown_by v = record {
 abbrev pub steps_of : View → List Taken
 steps_of v = v.copied ++ v.own
 
--- how many steps the view of a pass has, those of the passes that it was split off from among them
+-- how many steps the view of a pass has: its own, and those of the passes that it was split off from
 abbrev pub count_of : View → ℕ
 count_of v = length (steps_of v)
 

@@ -1,5 +1,4 @@
-//! Why a shared board refuses a call. A pass is a thread's permission on the board, a reader's or a reporter's. To settle is to read the
-//! board and learn whether all its entries, the accepted events, are of two reporters.
+//! Why a shared board refuses a call.
 
 use thiserror::Error;
 

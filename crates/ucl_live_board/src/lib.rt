@@ -1,5 +1,5 @@
-//! What every board is that threads share: its passes (a pass is a thread's permission on the board), the clauses of its calls, the
-//! invariant that all passes see one history, and settling. The boards stand above: in one cell in `ucl_pass`, word by word in `ucl_words`.
+//! What every board is that threads share: its passes, the clauses of its calls, the invariant that all passes see one history, and
+//! settling. The boards stand above: in one cell in `ucl_pass`, word by word in `ucl_words`.
 #![tactic(auto)]
 
 mod asking;

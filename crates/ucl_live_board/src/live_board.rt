@@ -1,5 +1,4 @@
-//! What every board is that threads share. A thread holds a pass, its permission on the board; to enlist a reader's pass is to make it a
-//! reporter's, under a number of its own. What a pass has seen is a prefix of the board's history, the list of accepted events.
+//! `LiveBoard`: what every board is that threads share.
 
 ghost use Rattle.std.specs.Prelude.{◌≡◌, MatchResult, Result};
 ghost use Rattle.ucl_word.specs.declared.event.EventCall.{EventCall};

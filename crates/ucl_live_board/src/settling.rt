@@ -1,4 +1,4 @@
-//! Settling: two reporters make sure that no third one has entered an event. A pass is a thread's permission on a shared board.
+//! Settling: two reporters make sure that no third one has entered an event.
 
 ghost use Rattle.ucl_live_board.specs.Settling.{LiveSettled};
 

@@ -1,6 +1,5 @@
-//! Theorems of every shared board that keeps the invariant, whatever its kinds of step are. The log is the list of all steps that passes,
-//! the permissions of threads, took, and the history that of its entries, the accepted events; a share is a pass's part of the board; to
-//! enlist a pass is to give it a reporter's number. The functions do nothing: each is there for its contract.
+//! Theorems of every shared board that keeps the invariant, whatever its kinds of step are. The functions do nothing: each is there for its
+//! contract.
 
 ghost use Rattle.ucl_board.specs.Log.{IsLegalRule};
 ghost use Rattle.ucl_live_board.specs.BoardInvariant.{StepsComeLast, LastStepsSeeAll, PassesSeePrefixes, NumbersAreApart, WordsCountReporters, HoldersDidAll, WholeIsAlone};

@@ -1,5 +1,4 @@
-//! What a pass, a thread's permission on a shared board, knows and has done. The log is the list of all steps that passes took, and the
-//! history that of the entries, the accepted events, that they added.
+//! What a pass knows and has done.
 
 ghost use Rattle.std.specs.Prelude.{List};
 ghost use Rattle.std.specs.Borrow.{ftrue};

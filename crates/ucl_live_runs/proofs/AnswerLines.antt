@@ -22,11 +22,11 @@ use Rattle.ucl_live_runs.proofs.AnswerValues.{matches-short}
 abbrev pub carried_in : List ℕ → List (Option BoardState)
 carried_in text = map parse_board_line (ended_lines 4097 [] text)
 
--- a line carries nothing, or just this
+-- `o`, what a line carries, is nothing, or just `most`
 abbrev pub IsAtMost : Option BoardState → Option BoardState → Type 0
 IsAtMost most o = (o ≡ None) ⊎ (o ≡ most)
 
--- a text is of whole lines, each of which carries nothing, or just this
+-- a text consists of whole lines, each of which carries nothing, or just `most`
 pub record CarriesAtMost (most : Option BoardState) (text : List ℕ) : Type 0 where
   pub begun : begun_line 4097 [] text ≡ []
   pub each : All (IsAtMost most) (carried_in text)
@@ -56,7 +56,7 @@ carried-none = ap (map parse_board_line) (ended_none 4097 [])
 pub most-none : (most : Option BoardState) → CarriesAtMost most []
 most-none most = record { begun = begun_none 4097 []; each = rw carried-none (All-nil (IsAtMost most)) }
 
--- what is kept of a line that is too long carries nothing, and neither does the line
+-- the first 4,097 bytes of a line are read as the same board state as the whole line, or both as none
 short-told : (body : List ℕ) → parse_board_line (take 4097 body) ≡ parse_board_line body
 short-told body = elim (cases_lt 4097 (length body)) [
   | inl long ↦ sym (too-long (take 4097 body) (let l = length-take-le 4097 body (omega arith) in omega arith)) ∙ too-long body (omega arith)
@@ -74,23 +74,23 @@ text-clean v =
     let whole = one_line v in
     subst HasNoFeed (sym (append_cancel_right (compact_text v) whole.body (10 ∷ []) whole.ends)) (no-feed whole.body whole.unbroken)
 
--- a text is one line, which carries this
+-- a text is one line, which carries the board state `o`, or nothing if `o` is None
 pub record IsLineThat (o : Option BoardState) (text : List ℕ) : Type 0 where
   pub begun : begun_line 4097 [] text ≡ []
   pub carried : carried_in text ≡ o ∷ []
 
--- the line of a value carries what its text is read as
+-- the JSON line of a value carries what the value's text is read as: a board state, or nothing
 pub value-line : (v : Data) (o : Option BoardState) → parse_board_line (compact_text v) ≡ o → IsLineThat o (json_line v)
 value-line v o h = record {
   begun = begun_ended 4097 [] (compact_text v);
   carried = ap (map parse_board_line) (ended_line 4097 [] (compact_text v) (text-clean v) (omega arith)) ∙ ap (λ (p : Option BoardState). p ∷ []) (short-told (compact_text v) ∙ h);
 }
 
--- a line that carries this carries at most what this is at most
+-- if a text is one line, which carries `o`, and `o` is nothing or just `most`, each line of the text carries nothing or just `most`
 pub most-as : (most o : Option BoardState) (text : List ℕ) → IsLineThat o text → IsAtMost most o → CarriesAtMost most text
 most-as most o text l h = record { begun = l.begun; each = rw l.carried (All-cons (IsAtMost most) o [] h (All-nil (IsAtMost most))) }
 
--- the line of a plain, short value that tells no board state carries none
+-- the JSON line of a plain, short value that is read as no board state carries none
 pub silent-line : (v : Data) (most : Option BoardState) → IsShortPlain v → parse_board_state v ≡ None → CarriesAtMost most (json_line v)
 silent-line v most short none = most-as most None (json_line v) (value-line v None (parsed-line v short ∙ none)) (inl refl)
 
@@ -115,12 +115,12 @@ refused-by-line o row event refusal (Some n) m r fits f v =
       size = omega (arith, digits-20, kind.1, name.1, name.2, fits.expected, fits.game, fits.reporter, stands.1);
     }) refl
 
--- what an answer shows of a row: a text, and not long
+-- what an answer shows of a row is printable ASCII, and has at most 130 bytes when quoted
 pub record IsShown (shown : List ℕ) : Type 0 where
   pub text : IsText shown
   pub short : length (quoted shown) ≤ 130
 
--- the printed bytes of a text are a text, and no longer
+-- the bytes of a text before its first that is not printable ASCII are all printable, and no more than the text has
 printed-text : (text : List ℕ) → IsText (printed text) × (length (printed text) ≤ length text)
 unfolding printed
 printed-text [] = (refl, omega arith)
@@ -130,12 +130,12 @@ printed-text (b ∷ text) =
       | inr n ↦ rw n (refl, omega arith)
     ]
 
--- what an answer shows of a line is a text, of at most 130 bytes when quoted
+-- what an answer shows of a line is printable ASCII, and has at most 130 bytes when quoted
 pub shown-text : (line : List ℕ) → IsShown (shown_text line)
 shown-text line =
     let p = printed-text (take 64 line) in record { text = p.0; short = omega (arith, p.1, length-take 64 line, quoted-length (shown_text line) p.0) }
 
--- the names of bad fields are texts, and not long
+-- the name of each bad field is printable ASCII, and has at most 10 bytes when quoted
 field-text : (field : BadField) → IsText (field_name field) × (length (quoted (field_name field)) ≤ 10)
 unfolding escape_byte
 field-text Count = (refl, omega arith)
@@ -157,7 +157,7 @@ words-line o row board r are =
     let w = words-plain board are in
     silent-line (words_value row board) o (record { plain = ((refl, refl), (refl, (r, (w.0, tt)))); size = omega (arith, digits-20, w.1) }) refl
 
--- the JSON answer to a request of matches carries none, if the row fits 64 bits, and the clubs and words are a roster and a board
+-- the JSON answer to a request of matches carries no board state, if the row fits 64 bits, the clubs are a roster and the words a board
 pub matches-line : (o : Option BoardState) (row : ℕ) (board : List ℕ) (clubs : List NamedClub) → row < 2 ^ 64 → IsRoster clubs → AreWords board →
     CarriesAtMost o (json_line (matches_value row board clubs))
 unfolding matches_value parse_board_state serde_json_on_literals
@@ -172,12 +172,12 @@ refused-line o row event refusal m r fits f v = refused-by-line o row event refu
 record IsFound (o : Option Refusal) : Type 0 where
   is : IfSome o (λ refusal. IfSome (found_of refusal) (λ n. n < 2 ^ 64))
 
--- if this refusal and that of `o` name no event number above 64 bits, neither does the one of them that `b` chooses
+-- if neither of two refusals, `refusal` and that in `o`, names an event number above 64 bits, neither does the one that `b` chooses
 or-found : (b : Bool) (refusal : Refusal) (o : Option Refusal) → IfSome (found_of refusal) (λ n. n < 2 ^ 64) → IsFound o → IsFound (if b then Some refusal else o)
 or-found true refusal o h k = record { is = h }
 or-found false refusal o h k = k
 
--- each refusal of a valid record that is stale names an event number that fits 64 bits
+-- if the event number of a match fits 64 bits, so does the event number that a refusal of a stale event names
 found-is : (m : MatchRecord) (expected : ℕ) (kind : Kind) → m.number < 2 ^ 64 → IsFound (refusal_of m expected kind)
 unfolding refusal_of
 found-is m expected kind h =

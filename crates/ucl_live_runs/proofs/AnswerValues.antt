@@ -65,7 +65,7 @@ order-back AwayInTie = refl
 edition-back : (edition : ℕ) → edition ≤ 65535 → edition_in (Some (number_value edition)) ≡ Some edition
 edition-back edition h = rw (le-leb edition 65535 h) refl
 
--- a value has the members by which a board state is told
+-- a JSON value has the members `group`, `order`, `edition`, `clubs` and `words` of this board state
 pub record Has (value : Data) (m : BoardState) : Type 0 where
   group : text_at (codes "group") value ≡ Some (m.header.group ∷ [])
   order : text_at (codes "order") value ≡ Some (profile_name m.header.profile)
@@ -114,7 +114,7 @@ answered row event event_number m is = record {
   mended = λ without left_out. tells _ m is (mended-has without row left_out m);
 }
 
--- what makes a board state plain and short in JSON: how long its members are at most
+-- the members of a board state are plain in JSON, and no longer than these bounds
 record IsPlainState (m : BoardState) : Type 0 where
   words : ArePlain 125 (word_items m.board) × (items_size false (word_items m.board) ≤ 228)
   clubs : ArePlain 125 (club_items m.roster) × (items_size false (club_items m.roster) ≤ 292)
@@ -134,7 +134,7 @@ state-plain m is = record {
   edition = is.edition;
 }
 
--- an accepted event in JSON fits a line, by how long its parts are at most
+-- the JSON answer to an accepted event has at most 4,096 bytes, if its parts are no longer than these bounds
 accepted-size : (row : ℕ) (event : NightEvent) (event_number : ℕ) (m : BoardState) (kind order : List ℕ) → kind ≡ kind_name event.call.kind → order ≡ profile_name m.header.profile
     → length (decimal row) ≤ 20 → length (decimal event.call.expected) ≤ 20 → length (decimal event.call.game) ≤ 20 → length (decimal event_number) ≤ 20
     → length (decimal event.reporter) ≤ 20 → length (decimal m.header.edition) ≤ 5 → length (decimal (version_of m.board)) ≤ 5
@@ -159,7 +159,7 @@ accepted-plain row event event_number m is r fits n =
           (digits-5 m.header.edition (omega arith)) (digits-5 (version_of m.board) (omega arith)) p.words.1 p.clubs.1 kind.1 p.group.1 p.order.1;
     }
 
--- the answer to a mend in JSON is a plain value that fits a line, and so is the one with the matches
+-- the JSON answer to a mend, with the row that it names or without, is a plain value that fits a line of 4,096 bytes
 pub mended-plain : (without : Option ℕ) (row left_out : ℕ) (m : BoardState) → IsBoardState m → row < 2 ^ 64 → IfSome without (λ n. n < 2 ^ 64) → left_out < 2 ^ 64
     → IsShortPlain (mended_with without (mended_value row left_out m.header m.board m.roster))
 unfolding mended_value serde_json_on_literals

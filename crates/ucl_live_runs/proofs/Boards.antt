@@ -62,7 +62,7 @@ four-bad club slot h = elim (cases_Bool (is_club club)) [ inl y ↦ cc (rw y at 
 abbrev four : NamedClub → List NamedClub
 four club = club ∷ club ∷ club ∷ club ∷ []
 
--- whether a roster of four times this club was made is whether it is a club that a roster takes
+-- if `r` is the result of making a roster of four times this club, it is Ok exactly if the club is one that a roster takes
 pub by-four : {B : Type 0} (r : Result (List NamedClub) B) (club : NamedClub) (slot_of : B → ℕ) → IfOk r (λ roster. (roster ≡ four club) × (bad_slot (four club) ≡ None))
     → IfErr r (λ bad. bad_slot (four club) ≡ Some (slot_of bad)) → is_ok r ≡ is_club club
 by-four (Ok roster) club slot_of good bad = sym (four-good club good.1)
@@ -141,7 +141,7 @@ event-numbers f e h =
       (ranged 0 65535 (number 5 f.third) e.call.expected p.2).1,
     )
 
--- a request whose numbers there can be: of a reporter, a match, an event of 16 bits, an edition or a row
+-- a request whose numbers are in range: its reporter and its match exist, an event number or an edition has 16 bits, a row 32
 abbrev pub IsPossible : Request → Type 0
 IsPossible (Event e) = IsAttempt (attempt_of e) × (e.call.expected ≤ 65535)
 IsPossible (Mends (As edition)) = edition ≤ 65535
@@ -160,7 +160,7 @@ module _ (P : Request → Type 0) where
       (λ _. cond_both (bytes_eq f.first (codes "words")) Words or_bad P (λ _. words)
       (λ _. cond_both (bytes_eq f.first (codes "matches")) Matches (Bad (bad_field f)) P (λ _. matches) (λ _. bad)))) (λ _. event)
 
--- a mend whose numbers there can be, or none
+-- no mend, or one whose numbers are in range
 abbrev IsNamed : Option Mend → Type 0
 IsNamed None = ⊤
 IsNamed (Some mend) = IsPossible (Mends mend)
@@ -171,17 +171,17 @@ small-in low high None = tt
 small-in low high (Some n) = cond_both (nat_le low n && nat_le n high) (Some n) None (λ (x : Option ℕ). IfSome x (λ k. k ≤ high))
     (λ y. leb-true n high (and_parts (nat_le low n) (nat_le n high) y).1) (λ _. tt)
 
--- a mend without a row of 32 bits, or no mend, has numbers that there can be
+-- a mend that names a row of 32 bits has its numbers in range; for None there is no mend
 named-row : (o : Option ℕ) → IfSome o (λ n. n ≤ 4294967295) → IsNamed (option_map Without o)
 named-row None h = tt
 named-row (Some n) h = h
 
--- a mend to an edition of 16 bits, or no mend, has numbers that there can be
+-- a mend to an edition of 16 bits has its numbers in range; for None there is no mend
 named-edition : (o : Option ℕ) → IfSome o (λ n. n ≤ 65535) → IsNamed (option_map As o)
 named-edition None h = tt
 named-edition (Some n) h = h
 
--- the mend that a row of the kind `mend` names, by a row or an edition, if any, has numbers that there can be
+-- the mend that a row of the kind `mend` names, by a row or an edition, if any, has its numbers in range
 named : (f : FourFields) → IsNamed (named_mend f)
 named f =
     let to_edition = if length f.second == 0 then option_map As (edition_by f.third) else None in
@@ -189,7 +189,7 @@ named f =
     (λ _. named-row (named_row f.second) (small-in 1 4294967295 (number 10 f.second)))
     (λ _. cond_both (length f.second == 0) (option_map As (edition_by f.third)) None IsNamed (λ _. named-edition (edition_by f.third) (small-in 0 65535 (number 5 f.third))) (λ _. tt))
 
--- the mend that a row of four fields makes, if any, has numbers that there can be
+-- the mend that a row of four fields makes, if any, has its numbers in range
 named-by : (f : FourFields) → IsNamed (mend_by f)
 named-by f =
     let club : Option Mend = if names_club f then Some Club else None in
@@ -197,17 +197,17 @@ named-by f =
     cond_both (bytes_eq f.first (codes "club")) club mend IsNamed (λ _. cond_both (names_club f) (Some Club) None IsNamed (λ _. tt) (λ _. tt))
     (λ _. cond_both (bytes_eq f.first (codes "mend") && (length f.fourth == 0)) (named_mend f) None IsNamed (λ _. named f) (λ _. tt))
 
--- the request of a row that mends, or else is bad, has numbers that there can be, if the mend has
+-- the request of a row that names this mend, or else is bad, has its numbers in range, if the mend has
 possible-mend : (f : FourFields) (o : Option Mend) → IsNamed o → IsPossible (mend_or_bad f o)
 possible-mend f None h = tt
 possible-mend f (Some mend) h = h
 
--- the request of a row that enters an event, or else mends or is bad, has numbers that there can be
+-- the request of a row that enters an event, or else mends or is bad, has its numbers in range
 possible-event : (f : FourFields) (o : Option NightEvent) → event_of f ≡ o → IsPossible (event_or_mend f o)
 possible-event f None is = possible-mend f (mend_by f) (named-by f)
 possible-event f (Some e) is = event-numbers f e is
 
--- each request that a line makes has numbers that there can be
+-- each request that a line makes has its numbers in range
 pub possible : (r : Said) → IsPossible (request_of r)
 possible (Row f) = asked-by IsPossible f tt tt tt tt (possible-event f (event_of f) refl)
 possible _ = tt
@@ -266,7 +266,7 @@ pub replies : RepliesAreThoseOfFeed
 unfolding reply_line RepliesAreThoseOfFeed
 replies header clubs board history row event = refl
 
--- the answer with the reply to an event is that which the history gives
+-- the text of the reply to an event, made from the reply and the board after it, is the one that is worked out from the history alone
 reply-answer : (format : Format) (header : BoardHeader) (row : ℕ) (clubs : List NamedClub) (history : List Entry) (event : NightEvent)
     → reply_answer format header row clubs event (length history) (sequential_reply history event.call) (board_of (after_attempt history (attempt_of event)))
     ≡ reply_by_history format header row clubs history event
@@ -335,12 +335,12 @@ abbrev pub IsGood : Reached → Type 0
 IsGood (Ok (Open table)) = IsRoster table.roster × IsLegal (history_in table.events)
 IsGood _ = ⊤
 
--- what is reached with four clubs is good, whether they are a roster or one of them is bad
+-- four clubs open a board only if they are a roster, and then with no event, so its history is legal
 good-roster : (clubs : List NamedClub) (slot : Option ℕ) → length clubs ≡ 4 → bad_slot clubs ≡ slot → IsGood (with_roster clubs slot)
 good-roster clubs None four e = (good_four clubs four e, may_none MayFollow)
 good-roster clubs (Some slot) four e = tt
 
--- what is reached by a row in the place of a club is good, whether it names a club or not
+-- if the board is open after a row in the place of a club, its clubs are a roster, and its history is legal
 pub good-club : (row : ℕ) (clubs : List NamedClub) (club : Option NamedClub) → IsGood (after_club row clubs club)
 good-club row clubs None = tt
 good-club row clubs (Some club) =
@@ -358,7 +358,7 @@ after-edition edition later most h = elim (cases_Bool (edition == 65535)) [
       let less : edition < 65535 = grind (arith, nat_tests) in (omega (arith, same), omega (arith, same, less))
 ]
 
--- the edition after a mend is later, and one that there can be
+-- the edition after a mend is later, and fits 16 bits
 pub later-edition : (edition : ℕ) (events : List StandingEvent) (mend : Mend) (later : ℕ) → edition ≤ 65535 → IsPossible (Mends mend) → edition_reply edition events mend ≡ Ok later
     → (edition < later) × (later ≤ 65535)
 later-edition edition events Club later most p h = after-edition edition later most h
@@ -382,12 +382,12 @@ unfolding MendsAreLegal
 good-mend events (Without row) legal = mends_legal row events legal
 good-mend _ _ legal = legal
 
--- what is reached by a row in the place of a group is good, whether it names a group or not
+-- if the board is open after a row in the place of a group, its clubs are a roster, and its history is legal
 good-header : (options : LiveArgs) (row : ℕ) (header : Option BoardHeader) → IsGood (after_header options row header)
 good-header options row None = tt
 good-header options row (Some header) = cond_both (is_asked options.group options.profile header) (Ok (AwaitingClubs [])) (Err OtherGroup) IsGood (λ _. tt) (λ _. tt)
 
--- what is reached by the first row is good, whether it names a group or a club
+-- if the board is open after the first row of a session, its clubs are a roster, and its history is legal
 pub good-first : (options : LiveArgs) (row : ℕ) (r : Said) → IsGood (after_beginning options row r)
 good-first options row r =
     cond_both (is_group_row r) (after_header options row (header_said r)) (after_club row [] (club_said 1 r)) IsGood

@@ -4,7 +4,7 @@ use Rattle.ucl_live_runs.proofs.Common.{attempt_board, attempt_of, attempts_from
 use Rattle.ucl_live_runs.proofs.Common.{inl, inr, is_ok, refl, sequential_reply, standing_of, subst, sym, ℕ, ◌∙◌, ◌∷◌, ◌≡◌}
 use Rattle.ucl_live_runs.proofs.Mends.{history-more}
 
--- the history of the events that stand after one is entered is the one after this attempt
+-- after an event is entered, the history of the events that stand is that of before, after the attempt to enter it
 pub entered-history : (row : ℕ) (events : List StandingEvent) (event : NightEvent) → history_in (entered row events event) ≡ after_attempt (history_in events) (attempt_of event)
 entered-history row events event = elim (cases_Bool (is_ok (sequential_reply (history_in events) event.call))) [
   | inl y ↦ rw y (history-more events (standing_of row event ∷ []))

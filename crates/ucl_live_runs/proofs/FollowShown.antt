@@ -30,7 +30,7 @@ shows f line (Some n) m is h =
     let q = and_parts (is_asked f.group f.profile m.header) (is_newer f.newest m) (subst (λ (x : BoardState). is_shown f x ≡ true) p.1 p.0) in
     record { carried = is ∙ ap Some p.1; asked = q.0; newer = q.1 }
 
--- what is shown of a line, by cases: nothing, or the board state that it carries
+-- a property `P` holds for what is shown of a line if it holds for nothing and for each board state that may be shown of the line
 by-shown : (P : Option BoardState → Type 0) (f : FollowState) (line : List ℕ) → (shown_of f line ≡ None → P None) → ((m : BoardState) → Shows f line m → P (Some m))
     → P (shown_of f line)
 by-shown P f line none some = by (shown_of f line) refl
@@ -98,7 +98,7 @@ itself : (order : Profile) → is_same_order order order ≡ true
 itself Uefa = refl
 itself AwayInTie = refl
 
--- if one asks for the group and the order of the other, they are
+-- if a request for the group and the order of one header lets another header through, both are of one group and one order
 pub asked-same : (a b : BoardHeader) → is_asked (Some a.group) (Some a.profile) b ≡ true → IsOfSame a b
 asked-same a b h =
     let p = and_parts (a.group == b.group) (is_same_order a.profile b.profile) h in (eqb-true a.group b.group p.0, same-order a.profile b.profile p.1)
@@ -107,7 +107,7 @@ asked-same a b h =
 pub same-asked : (a b : BoardHeader) → IsOfSame a b → is_asked (Some a.group) (Some a.profile) b ≡ true
 same-asked a b h = let order = itself b.profile in rw (h.0, h.1, order) (grind (arith, nat_tests))
 
--- of two such headers what is asked for is the same
+-- of two headers of one group and one order, a request for a group and an order lets both through, or none
 alike : (a b : BoardHeader) → IsOfSame a b → (group : Option ℕ) (profile : Option Profile) → is_asked group profile a ≡ is_asked group profile b
 alike a b h group profile = rw (h.0, h.1) refl
 
@@ -126,7 +126,7 @@ keeps f [] m h = h
 keeps f (line ∷ lines) m h = by-shown (λ o. Follows (followed (after_shown f o) lines) m) f line (λ _. keeps (after_shown f None) lines m h)
     (λ n s. let same = asked-same m.header n.header (rw (h.0, h.1) at s.asked) in keeps (after_shown f (Some n)) lines m (ap Some (sym same.0), ap Some (sym same.1)))
 
--- what it follows after lines it followed before, if less was asked for then
+-- if a board state is of the group and order that a follower follows after these lines, it is of those that it followed before, if any
 narrows : (f : FollowState) (lines : Lines) (m : BoardState) → IsFollowed (followed f lines) m → IsFollowed f m
 unfolding followed
 narrows f [] m h = h

@@ -66,13 +66,14 @@ module _ (P : Session → List ℕ → Type 0) where
       at (Ok (Open table)) is = answered table.roster table.events is
       at s is = silent (moved e (next_at e s r))
 
--- a line on an open board leads to the session to which its request leads
+-- the session after a line on an open board has the header and the phase that the request of the line leads to
 pub on-board : (e : Session) (r : Said) (clubs : List NamedClub) (events : List StandingEvent) → e.phase ≡ open_at clubs events
     → next e r ≡ moved e (request_stage e.header e.row clubs events r (request_of r))
 on-board e Nothing clubs events h = ap (λ (s : Reached). moved e (stage e.header s)) h
 on-board e r clubs events h = ap (λ (s : Reached). moved e (next_at e s r)) h
 
--- after a mend an open board is that of the events which the mend makes of those that stand, or it stays, if the mend is refused
+-- a line that asks for a mend brings an open board to a later edition, with clubs and events as the mend makes them; if it is
+-- refused, nothing changes
 pub mends-done : MendsAreDone
 unfolding MendsAreDone
 mends-done e r clubs events mend h q =
@@ -144,7 +145,7 @@ beginnings e bytes more =
 pub whole-text : (e : Session) (bytes : List ℕ) → live_text e bytes ≡ answers_to e bytes ++ answers (after_bytes e bytes) (last_lines (begun_line 258 [] bytes))
 whole-text e bytes = answers-append e (ended_lines 258 [] bytes) (last_lines (begun_line 258 [] bytes))
 
--- what is missing at the end of an input is what is missing after its whole lines and the last line, if it has begun
+-- the fault of a session at the end of an input, if any, is the one after its whole lines and then the last line, if it has begun
 pub whole-missing : (e : Session) (bytes : List ℕ) → missing_after e bytes ≡ missing_at (after_bytes e bytes) (begun_line 258 [] bytes)
 whole-missing e bytes = ap missing_now (after-append e (ended_lines 258 [] bytes) (last_lines (begun_line 258 [] bytes)))
 
@@ -153,7 +154,7 @@ pub none-answers : (e : Session) (begun : List ℕ) → begun ≡ [] → answers
 unfolding answers
 none-answers e begun none = ap (λ (l : List ℕ). answers e (last_lines l)) none
 
--- a last line of no bytes changes nothing of what is missing at the end
+-- a last line of no bytes changes nothing of the fault at the end of the input, if any
 pub none-missing : (e : Session) (begun : List ℕ) → begun ≡ [] → missing_at e begun ≡ missing e.row e.phase
 unfolding after_lines
 none-missing e begun none = ap (λ (l : List ℕ). missing_at e l) none
@@ -170,13 +171,13 @@ unfolding after_lines
 some-end e [] some = absurd (some refl)
 some-end e (b ∷ line) some = refl
 
--- a greater row is told as the greatest that can be told
+-- two line numbers that a fault reports alike, as those above 32 bits are, give the same fault, if any, at the end of an input
 told-alike : (a b : ℕ) (s : Reached) → fault_row a ≡ fault_row b → missing a s ≡ missing b s
 told-alike a b (Ok (Open table)) e = refl
 told-alike a b (Err fault) e = refl
 told-alike _ _ _ e = ap (λ (n : ℕ). Some (Run (Input (BadRow n)))) e
 
--- what is missing after a last line with a byte is what is missing of the session that the line leads to, one row later
+-- if the last line `begun` of an input is not empty, the fault for first rows that are missing at its end is that of the session after it
 pub some-missing : (e f : Session) (begun : List ℕ) → (begun ≡ [] → ⊥) → f ≡ next e (said_on e.row begun) → missing_at e begun ≡ missing (min (e.row + 1) (2 ^ 64 - 1)) f.phase
 some-missing e f begun some is =
     ap missing_now (some-end e begun some ∙ sym is) ∙ ap (λ (k : Session). missing k.row f.phase) is
@@ -240,7 +241,7 @@ json-lines e (line ∷ lines) h =
     (λ clubs events _. request-lines e.options e.header e.row clubs events said h (request_of said) shown) in
     lines_then (answer_said e said shown) (answers (next e said) lines) one (json-lines (next e said) lines h)
 
--- a byte more of a line, of which at most 258 are kept
+-- if the first 258 bytes of a line are kept, then after one byte more those of the longer line are
 kept-one : (line : List ℕ) (b : ℕ) → longer 258 (take 258 line) b ≡ take 258 (line ++ b ∷ [])
 kept-one line b = let kept = length-take 258 line in elim (cases_Bool (nat_le 258 (length (take 258 line)))) [
   | inl full ↦
@@ -261,7 +262,7 @@ lines-kept line (b ∷ bytes) = elim (cases_Bool (b == 10)) [
   | inr n ↦ rw (n, kept-one line b) (lines-kept (line ++ b ∷ []) bytes)
 ]
 
--- a line of which more than 258 bytes came says nothing that there is, whatever is kept of it
+-- a line that has more than 258 bytes with its line feed is too long to be read
 no-room : (text : List ℕ) → 258 < length text → fits text ≡ false
 no-room text h = elim (cases_Bool (get_or text (length text - 2) 0 == 13)) [
   | inl y ↦ rw y (lt-leb (length text) 258 h)
@@ -273,7 +274,7 @@ too-long : (row : ℕ) (line : List ℕ) → 258 ≤ length line → said_on row
 unfolding said_by_text
 too-long row line h = rw (no-room (line ++ 10 ∷ []) (let m = length-append line (10 ∷ []) in omega (arith, h, m))) refl
 
--- a line says and shows the same as what is kept of it
+-- a line says and shows the same as its first 258 bytes
 same-line : (row : ℕ) (line : List ℕ) → (said_on row (take 258 line) ≡ said_on row line) × (shown_text (take 258 line) ≡ shown_text line)
 same-line row line = elim (cases_Bool (nat_le 258 (length line))) [
   | inl long ↦
@@ -285,7 +286,7 @@ same-line row line = elim (cases_Bool (nat_le 258 (length line))) [
   | inr short ↦ let all = take_all 258 line (grind (arith, nat_tests)) in (ap (said_on row) all, ap shown_text all)
 ]
 
--- a session answers lines alike, whole and as they are kept
+-- a session answers lines alike, and is the same after them, whether they are whole or cut to their first 258 bytes
 same-lines : (e : Session) (lines : List (List ℕ)) → (answers e (map (take 258) lines) ≡ answers e lines) × (after_lines e (map (take 258) lines) ≡ after_lines e lines)
 unfolding answers after_lines
 same-lines e [] = (refl, refl)

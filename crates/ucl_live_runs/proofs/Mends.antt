@@ -33,7 +33,7 @@ mended-more row events event = fold-append (kept_after row) [] events (event ∷
 abbrev pub reply-again : List StandingEvent → StandingEvent → Result Accepted Refusal
 reply-again kept event = sequential_reply (history_in kept) (call_again (history_in kept) event.entry)
 
--- an event of another row than the named one has the fate of that reply
+-- if an event has another row than the one that a mend names, its fate is given by the reply to it when it is entered again
 fate-other : (row : ℕ) (kept : List StandingEvent) (event : StandingEvent) → (event.row == row) ≡ false → fate_of row kept event ≡ fate_by (reply-again kept event)
 fate-other row kept event n = ap (λ (b : Bool). if b then Named else fate_by (reply-again kept event)) n
 
@@ -41,7 +41,7 @@ fate-other row kept event n = ap (λ (b : Bool). if b then Named else fate_by (r
 fate-named : (row : ℕ) (kept : List StandingEvent) (event : StandingEvent) → (event.row == row) ≡ true → fate_of row kept event ≡ Named
 fate-named row kept event y = ap (λ (b : Bool). if b then Named else fate_by (reply-again kept event)) y
 
--- the history of what is kept after that reply
+-- the history of the events kept, after one that is entered again and gets this reply: with its entry at the end if accepted, else the same
 kept-history : (kept : List StandingEvent) (event : StandingEvent) (reply : Result Accepted Refusal)
     → history_in (kept_by kept event (fate_by reply)) ≡ (if is_ok reply then followed_by (history_in kept) event.entry else history_in kept)
 kept-history kept event (Ok accepted) = history-more kept (event ∷ [])
@@ -73,7 +73,7 @@ may-at before event more legal =
     let parts = history-more before (event ∷ more) ∙ sym (append_assoc (history_in before) (event.entry ∷ []) (history_in more)) in
     may_last MayFollow (history_in before) event.entry (may_begin MayFollow (followed_by (history_in before) event.entry) (history_in more) (subst IsLegal parts legal))
 
--- a legal history stays legal when it is cut one event later
+-- if a history cut before an event is legal, it is legal cut after this event
 one-on : (before : List StandingEvent) (event : StandingEvent) (more : List StandingEvent) → IsLegal (history_in (before ++ event ∷ more))
     → IsLegal (history_in ((before ++ event ∷ []) ++ more))
 one-on before event more legal = subst (λ (l : List StandingEvent). IsLegal (history_in l)) (sym (append_assoc before (event ∷ []) more)) legal
@@ -94,7 +94,7 @@ mends_legal row events legal = all-legal row [] events (may_none MayFollow) (all
 abbrev pub IsOtherRow : ℕ → StandingEvent → Type 0
 IsOtherRow row event = event.row ≢ row
 
--- an event is kept if those kept before it are, of its match, the same as those before it in a legal history
+-- an event not of the named row that may follow `before` is kept after `kept`, if both have the same entries of its match
 same-accepted : (row : ℕ) (kept before : List StandingEvent) (event : StandingEvent)
     → entries_of event.entry.game (history_in kept) ≡ entries_of event.entry.game (history_in before) → MayFollow (history_in before) event.entry
     → IsOtherRow row event → fate_of row kept event ≡ Kept
@@ -147,17 +147,17 @@ events-else : (game : ℕ) (kept : List StandingEvent) (event : StandingEvent) �
 events-else game kept event not =
     events-more game kept event ∙ ap (λ (b : Bool). events_of game kept ++ (if b then event ∷ [] else [])) (ne_eqb event.entry.game game not) ∙ append-nil (events_of game kept)
 
--- an event of another match changes none of these, whatever becomes of it
+-- an event of another match leaves the kept events of this match as they are, whatever its fate
 fate-else : (game : ℕ) (kept : List StandingEvent) (event : StandingEvent) (fate : Fate) → event.entry.game ≢ game → events_of game (kept_by kept event fate) ≡ events_of game kept
 fate-else game kept event Kept not = events-else game kept event not
 fate-else game kept event Named not = refl
 fate-else game kept event (Refused refusal) not = refl
 
--- an event of this match does not have the named row
+-- an event does not both have the named row and belong to this match
 abbrev IsOther : ℕ → ℕ → StandingEvent → Type 0
 IsOther row game event = event.row ≡ row → event.entry.game ≢ game
 
--- one event more, with those of its match kept so far, stays
+-- if a mend has kept all events of a match so far, it still has after one event more that may follow, unless it is of the match and named
 pub one-event : (row game : ℕ) (kept before : List StandingEvent) (event : StandingEvent) → events_of game kept ≡ events_of game before
     → MayFollow (history_in before) event.entry → IsOther row game event → events_of game (kept_after row kept event) ≡ events_of game (before ++ event ∷ [])
 one-event row game kept before event same may other = elim (cases_eq event.entry.game game) [
@@ -169,7 +169,7 @@ one-event row game kept before event same may other = elim (cases_eq event.entry
   | inr not ↦ fate-else game kept event (fate_of row kept event) not ∙ same ∙ sym (events-else game before event not)
 ]
 
--- all events of a match stay, if none of them has the named row
+-- if a mend has kept all events of a match so far, it keeps those among more events too, if none of them has the named row
 all-events : (row game : ℕ) (kept before events : List StandingEvent) → events_of game kept ≡ events_of game before
     → IsLegal (history_in (before ++ events)) → All (IsOther row game) events
     → events_of game (fold (kept_after row) kept events) ≡ events_of game (before ++ events)
@@ -184,7 +184,7 @@ pub other_matches : OtherMatchesStay
 unfolding OtherMatchesStay
 other_matches row game events legal all = all-events row game [] [] events refl legal all
 
--- with more events behind, those left out come first, and then those of the events behind
+-- of two lists of events, one after the other, a mend leaves out first those of the first, and then those of the second, after what it kept
 pub left-more : (row : ℕ) (kept events more : List StandingEvent)
     → left_out_after row kept (events ++ more) ≡ left_out_after row kept events ++ left_out_after row (fold (kept_after row) kept events) more
 unfolding left_out_after
@@ -201,7 +201,7 @@ by-kept kept event Kept = (event ∷ [], refl)
 by-kept kept event Named = ([], append-nil kept)
 by-kept kept event (Refused refusal) = ([], append-nil kept)
 
--- what was kept stays at the front
+-- what a mend has kept so far stays at the front of what it keeps after more events
 kept-begins : (row : ℕ) (kept more : List StandingEvent) → IsPrefix kept (fold (kept_after row) kept more)
 kept-begins row kept [] = ([], append-nil kept)
 kept-begins row kept (event ∷ more) =
@@ -209,7 +209,7 @@ kept-begins row kept (event ∷ more) =
     let rest = kept-begins row (kept_after row kept event) more in
     (here.0 ++ rest.0, sym (append_assoc kept here.0 rest.0) ∙ ap (λ (l : List StandingEvent). l ++ rest.0) here.1 ∙ rest.1)
 
--- if no event is left out, and none is named, each is kept
+-- if an event that is entered again is not left out, and none after it is (`rest`), the event is kept
 by-none : (event : StandingEvent) (reply : Result Accepted Refusal) (rest : List LeftOut) → left_by event (fate_by reply) ++ rest ≡ [] → (fate_by reply ≡ Kept) × (rest ≡ [])
 by-none event (Ok accepted) rest h = (refl, h)
 by-none event (Err refusal) rest h = absurd cc
@@ -227,7 +227,7 @@ none-left row kept (event ∷ more) none all =
     ∙ none-left row (kept ++ event ∷ []) more (ap (λ (l : List StandingEvent). left_out_after row l more) (sym is) ∙ by.1) (All-tail (IsOtherRow row) event more all)
     ∙ append_assoc kept (event ∷ []) more
 
--- events that are entered later leave what a mend makes of those before as it was
+-- a mend does the same with a list of events whether more follow or not; it keeps all that follow if it leaves out and names none of them
 pub later_events : LaterEventsGoOn
 unfolding LaterEventsGoOn
 later_events row events more =
@@ -325,7 +325,7 @@ module _ (row : ℕ) (events : List StandingEvent) (i : ℕ) (event : StandingEv
 pub not-left : (event : StandingEvent) (fate : Fate) → (fate ≡ Kept) ⊎ (fate ≡ Named) → left_by event fate ≡ []
 not-left event fate is = elim is [ inl k ↦ ap (left_by event) k | inr n ↦ ap (left_by event) n ]
 
--- at the end of the list no event is left to be left out
+-- past the last event a mend leaves out no more
 pub all-told : (row : ℕ) (events : List StandingEvent) (i : ℕ) → length events ≤ i → left_out_after row (mended row (take i events)) (drop i events) ≡ []
 unfolding left_out_after
 all-told row events i past = ap (left_out_after row (mended row (take i events))) (drop_all i events past)

@@ -14,7 +14,7 @@ use Rattle.ucl_live_runs.proofs.AnswerLines.{IsAtMost, IsShown, begun-then, carr
 use Rattle.ucl_live_runs.proofs.FollowShown.{among, others, same-asked, versions}
 use Rattle.ucl_live_runs.proofs.Told.{IsBehind, IsSound, Tells, board-tells, line-tells, sound-next, start-sound}
 
--- a board state that is behind another is older
+-- a board state that is behind another, that is, of its group and order and of an earlier edition or version, is older
 older : (m o : BoardState) → IsBehind o m → IsOlder m o
 older m o b = (same-asked m.header o.header (sym b.same.0, sym b.same.1), later m o b.less)
   where
@@ -22,7 +22,7 @@ older m o b = (same-asked m.header o.header (sym b.same.0, sym b.same.1), later 
     later m o (inl less) = grind (arith, nat_tests)
     later m o (inr less) = grind (arith, nat_tests)
 
--- what is behind a board state is behind each later one
+-- if a board state is the same as a second or behind it (earlier, of one group and order), and that is behind a third, so is the first
 further : (a b c : BoardState) → (a ≡ b) ⊎ IsBehind a b → IsBehind b c → IsBehind a c
 further a b c (inl same) q = subst (λ (x : BoardState). IsBehind x c) (sym same) q
 further a b c (inr p) q = record {
@@ -41,14 +41,14 @@ Lines = List (List ℕ)
 abbrev Carried : Type 0
 Carried = List (Option BoardState)
 
--- this board state, which was carried, is the board state of the session or behind it, and that was carried too
+-- the session has a board state, which was carried, and `o` is this one, or an earlier one of its group and order
 record IsNoNewerIn (e : Session) (out : Carried) (o : BoardState) : Type 0 where
   now : BoardState
   stands : board_state_now e ≡ Some now
   behind : (o ≡ now) ⊎ IsBehind o now
   carried : Contains out (Some now)
 
--- each board state that was carried is no newer than that of the session
+-- each board state that was carried is that of the session or an earlier one, and that of the session was carried, if any was
 abbrev AreNoNewer : Session → Carried → Type 0
 AreNoNewer e out = (o : BoardState) → Contains out (Some o) → IsNoNewerIn e out o
 
@@ -65,7 +65,8 @@ at-board e (Ok (Open table)) m h k =
     record { clubs = table.roster; events = table.events; phase = h; same = same_Some (board_state_with e.header table.roster (board_in table.events)) m k }
 at-board e s m h k = cc
 
--- two parts that never fall, where none of the second is older than one of the first, never fall together
+-- if two lists of board states never fall (none is older than one before it), and none of the second is older than one of the first, both
+-- together never fall
 fall-append : (a b : Carried) → NeverFall a → NeverFall b → All (λ o. All (IsNoFall o) b) a → NeverFall (a ++ b)
 unfolding NeverFall
 fall-append [] b p q h = q
@@ -73,11 +74,11 @@ fall-append (o ∷ a) b p q h =
     let Q = λ (o : Option BoardState). All (IsNoFall o) b in
     (All-append (IsNoFall o) a b p.0 (All-head Q o a h), fall-append a b p.1 q (All-tail Q o a h))
 
--- after an answer that carries no board state, no other is a fall from it
+-- no answer counts as a fall (to an older board state) after an answer that carries no board state
 none-falls : (os : Carried) → All (IsNoFall None) os
 none-falls os = All-weaker (Contains os) (IsNoFall None) (λ _ _. tt) os (All-contains_itself os)
 
--- of two that carry nothing or just this, the second is no fall from the first
+-- if each of two answers carries nothing or just `most`, the second is no fall (to an older board state) from the first
 most-falls : (most o p : Option BoardState) → IsAtMost most o → IsAtMost most p → IsNoFall o p
 most-falls most None p h k = tt
 most-falls most (Some x) None h k = tt
@@ -151,13 +152,15 @@ module _ (e : Session) (r : Said) (shown : List ℕ) (json : e.options.format �
         (same-falls (board_state_now (next e r)) (carried_in text) (line-tells e r shown json fits g short).each)
         (All-weaker (Contains out) (λ o. All (IsNoFall o) (carried_in text)) rises out (All-contains_itself out))
 
--- along lines what was carried is no newer than the board state of the session, and never falls
+-- the answers to these lines are whole lines; with what they carry put behind `out`, what was carried before, no board state is newer than
+-- that of the session after the lines, and none is older than one before it
 record Walks (e : Session) (out : Carried) (lines : Lines) : Type 0 where
   begun : begun_line 4097 [] (answers e lines) ≡ []
   told : AreNoNewer (after_lines e lines) (out ++ carried_in (answers e lines))
   falls : NeverFall (out ++ carried_in (answers e lines))
 
--- along the lines of a session what its answers carry never falls
+-- if of the board states that were carried none is newer than that of the session, and none older than one before it, this stays so with
+-- those that the answers to more lines carry
 walks : (e : Session) (out : Carried) (lines : Lines) → e.options.format ≡ Json → e.row + length lines ≤ 2 ^ 64 → IsSound e → AreNoNewer e out → NeverFall out → Walks e out lines
 unfolding answers after_lines
 walks e out [] json fits g told falls = record { begun = begun_none 4097 []; told = rw (carried-none, append-nil out) told; falls = rw (carried-none, append-nil out) falls }
@@ -191,7 +194,7 @@ lines-few bytes =
     let few = few_lines 258 [] bytes in
     omega (arith, length-append ended (last_lines begun), one, few)
 
--- along the rows of a record what its answers carry never falls
+-- of the board states that the answers to a record carry, none is older than one before it, and none newer than the board at its end
 all-walks : (options : LiveArgs) (rows : List ℕ) → options.format ≡ Json → length rows ≤ 2 ^ 62 → Walks (start_of options) [] (lines_of rows)
 unfolding NeverFall
 all-walks options rows json short =

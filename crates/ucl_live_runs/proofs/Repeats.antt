@@ -23,7 +23,7 @@ again h made a legal all was =
     let here = ap (fold after_attempt h) was.place ∙ fold-append after_attempt h was.before (a ∷ was.since) in
     subst (λ (g : List Entry). IsStaleAgain g a) (sym here) stale
 
--- with one attempt more at the front of both, two lists still leave the same
+-- if two lists of attempts lead to the same history and board after an attempt, they do so with this attempt at the front of both
 next-same : (h : List Entry) (a : Attempt) (longer rest : List Attempt) → IsLegal h → IsAttempt a → LeaveTheSame (after_attempt h a) longer rest → LeaveTheSame h (a ∷ longer) (a ∷ rest)
 next-same h a longer rest legal is more =
     let board = attempt_board h a legal is in record {
@@ -31,7 +31,7 @@ next-same h a longer rest legal is more =
       board_is = ap (λ (ws : List ℕ). fold board_after ws longer) board ∙ (more.board_is ∙ ap (λ (ws : List ℕ). fold board_after ws rest) (sym board));
     }
 
--- an attempt that is stale, at the front of one of two lists that leave the same, changes nothing
+-- if two lists of attempts lead to the same history and board, they still do if a stale attempt is put at the front of one
 again-same : (h : List Entry) (a : Attempt) (longer shorter : List Attempt) → IsStaleAgain h a → LeaveTheSame h longer shorter → LeaveTheSame h (a ∷ longer) shorter
 again-same h a longer shorter stale more = record {
   history_is = ap (λ (g : List Entry). fold after_attempt g longer) stale.history_is ∙ more.history_is;

@@ -6,7 +6,7 @@ use Rattle.ucl_live_runs.proofs.Common.{follow_text, followed, inl, inr, last_li
 use Rattle.ucl_live_runs.proofs.Common.{Option, said_on, session_due, session_of, shown_text, subst, sym, unseen, ℕ, ◌++◌, ◌+◌, ◌∙◌, ◌∷◌, ◌≡◌, ◌≤◌, ◌⊎◌}
 use Rattle.std.specs.Io.KnownBytes.{Appends}
 use Rattle.ucl_command.specs.declared.follow.FollowShape.{FollowShape}
-use Rattle.ucl_io.proofs.Calls.{logs-as, whole}
+use Rattle.ucl_io.proofs.Calls.{logs-as, holds_of_all}
 use Rattle.ucl_io.proofs.Puts.{stopped_first}
 use Rattle.ucl_io.proofs.Turns.{Front, runs_front}
 use Rattle.ucl_io.specs.Calls.{Device, HasEnded, LogsCalls, device}
@@ -25,7 +25,9 @@ use Rattle.ucl_live_runs.proofs.Lines.{whole-text}
 use Rattle.ucl_io.specs.declared.stream.Sink as writes
 use Rattle.ucl_io.specs.declared.stream.Source as reads
 
--- what is due of the lines of a handler that begins as m and answers by this rule
+-- a handler of lines with the rules `R`, which begins as `m`, does what `D` says is due: its answers to the lines that end among some bytes
+-- are the text due so far, and with that to the last line the whole text, and then its value is as `D` says; if it stops by a fault, `D`
+-- lets it. Of a line at most `cap` bytes are kept
 pub record Drives {M V F : Type 0} (R : LineRules M F) (cap : ℕ) (D : Due V F) (m : M) (v : M → V) : Type 0 where
   pub text : List (List ℕ) → List ℕ
   pub so_far : (bytes : List ℕ) → D.so_far bytes ≡ text (ended_lines cap [] bytes)
@@ -120,8 +122,8 @@ module _ {M V F S W : Type 0} {R : LineRules M F} {cap : ℕ} {D : Due V F} {m :
   pub ends : (count : ℕ) → ServedBy R cap old new (Ok count) Prompt → source.failed b.source ≡ false → IsDriven D source sink a b (Ok (v n))
   ends count p read =
       let e = p.ends.1 in record {
-        text = whole _ before.left after.left p.run.bytes e.ended p.consumed (rw (closed p e).0 at p.out.0);
-        ends = whole _ before.left after.left p.run.bytes e.ended p.consumed (closed p e).1;
+        text = holds_of_all _ before.left after.left p.run.bytes e.ended p.consumed (rw (closed p e).0 at p.out.0);
+        ends = holds_of_all _ before.left after.left p.run.bytes e.ended p.consumed (closed p e).1;
         prompt = prompt p;
         read_failed = read;
         sink_ends = p.out.1;
@@ -164,7 +166,7 @@ SessionRules = rules_of
     (λ m row begun n text. Closes (session_of m row) begun text)
     (λ m row begun n fault. HasNoEnd (session_of m row) begun fault)
 
--- what lines that were answered come to
+-- if the code of a session has answered these lines, its state is that of the session after them, and `text` is the answers to them
 session_turns : (row : ℕ) (m : Held) (lines : List (List ℕ)) {text : List ℕ} {n : Held} → Turns SessionRules.line row m lines text n None
     → (session_of n (row + length lines) ≡ after_lines (session_of m row) lines) × (text ≡ answers (session_of m row) lines)
 unfolding after_lines answers

@@ -46,7 +46,7 @@ pub record Tells (before : BoardState) (after : Option BoardState) (text : List 
   pub most : CarriesAtMost after text
   pub moves : (after ≡ Some before) ⊎ ((m : BoardState) × (after ≡ Some m) × IsBehind before m × Contains (carried_in text) (Some m))
 
--- an answer that carries nothing or the board state after it tells that one, if it is the one before
+-- if the board state has not changed, an answer tells it if each of its lines carries nothing or just this board state
 pub stays-told : (before : BoardState) (after : Option BoardState) (text : List ℕ) → CarriesAtMost after text → after ≡ Some before → Tells before after text
 stays-told before after text most same = record { most = most; moves = inl same }
 
@@ -55,7 +55,7 @@ pub record IsHeader (header : BoardHeader) : Type 0 where
   pub letter : IsGroup header.group
   pub edition : header.edition ≤ 65535
 
--- a text that is read as a letter is that of a group
+-- a text that is read as the letter of a group names a group that there is
 within : (text : List ℕ) (group : ℕ) → letter_in text ≡ Some group → IsGroup group
 within (b ∷ []) group e = elim (cases_Bool (nat_le 65 b && nat_le b 72)) [
   | inl y ↦
@@ -115,7 +115,7 @@ pub record IsSmall (event : StandingEvent) : Type 0 where
 small-row : (row : ℕ) → row_number row < 2 ^ 64
 small-row row = cond_both (nat_le row 4294967295) row 0 (λ n. n < 2 ^ 64) (λ y. grind (arith, nat_tests)) (λ _. omega arith)
 
--- if the numbers of all events that stand fit 64 bits, they do so after an event that there can be is entered
+-- if the numbers of all events that stand fit 64 bits, they do so after an event is entered whose numbers are in range
 small-entered : (row : ℕ) (events : List StandingEvent) (event : NightEvent) → IsPossible (Event event) → All IsSmall events → All IsSmall (entered row events event)
 small-entered row events event p all =
     let one : IsSmall (standing_of row event) = record { row = small-row row; game = omega (arith, p.0.1); reporter = omega (arith, p.0.0) } in
@@ -138,7 +138,7 @@ small-after : (events : List StandingEvent) (mend : Mend) → All IsSmall events
 small-after events (Without row) all = small-mended row [] events (All-nil IsSmall) all
 small-after events _ all = all
 
--- the lines of events that a mend leaves out carry no board state
+-- the JSON lines of the events that a mend leaves out carry no board state, if all numbers of the events it goes through fit 64 bits
 left-tells : (o : Option BoardState) (row : ℕ) (kept events : List StandingEvent) → All IsSmall events → CarriesAtMost o (left_out_lines (left_out_after row kept events))
 unfolding left_out_after
 left-tells o row kept [] all = most-none o
@@ -168,7 +168,8 @@ abbrev pub IsSmallAt : Reached → Type 0
 IsSmallAt (Ok (Open table)) = All IsSmall table.events
 IsSmallAt _ = ⊤
 
--- what a session has reached, with its header, is in range: it is good, and all numbers fit
+-- a header and what a session has reached are in range: if the board is open, its clubs are a roster, its history legal, its numbers of 64
+-- bits
 pub record AreSound (header : BoardHeader) (reached : Reached) : Type 0 where
   pub phase : IsGood reached
   pub small : IsSmallAt reached
@@ -178,7 +179,7 @@ pub record AreSound (header : BoardHeader) (reached : Reached) : Type 0 where
 abbrev pub IsSound : Session → Type 0
 IsSound e = AreSound e.header e.phase
 
--- an open board that is sound stays sound after a mend whose numbers there can be
+-- an open board that is sound stays sound after a mend whose numbers are in range
 sound-mend : (header : BoardHeader) (clubs : List NamedClub) (events : List StandingEvent) (r : Said) (mend : Mend) (reply : Result ℕ MendRefusal) → AreSound header (open_at clubs events)
     → IsPossible (Mends mend) → edition_reply header.edition events mend ≡ reply → AreSound (mended_stage header clubs events r mend reply).header (mended_stage header clubs events r mend reply).phase
 sound-mend header clubs events r mend (Ok edition) g p is = record {
@@ -188,7 +189,7 @@ sound-mend header clubs events r mend (Ok edition) g p is = record {
 }
 sound-mend header clubs events r mend (Err refusal) g p is = g
 
--- an open board that is sound stays sound after a request whose numbers there can be
+-- an open board that is sound stays sound after a request whose numbers are in range
 sound-request : (header : BoardHeader) (row : ℕ) (clubs : List NamedClub) (events : List StandingEvent) (r : Said) (q : Request) → AreSound header (open_at clubs events)
     → IsPossible q → AreSound (request_stage header row clubs events r q).header (request_stage header row clubs events r q).phase
 sound-request header row clubs events r (Event event) g p = record {
@@ -205,7 +206,7 @@ small-roster : (clubs : List NamedClub) (slot : Option ℕ) → IsSmallAt (with_
 small-roster clubs None = All-nil IsSmall
 small-roster clubs (Some slot) = tt
 
--- all numbers of the events that stand, which are none, fit 64 bits after a row in the place of a club
+-- before the board is open no event stands, so after the row of a club all numbers of the events that stand fit 64 bits
 small-club : (row : ℕ) (clubs : List NamedClub) (club : Option NamedClub) → IsSmallAt (after_club row clubs club)
 small-club row clubs None = tt
 small-club row clubs (Some club) =
@@ -247,12 +248,12 @@ sound-next e r g = sound-at e e.phase r g
 pub start-sound : (options : LiveArgs) → IsSound (start_of options)
 start-sound options = record { phase = tt; small = tt; header_is = first-header options }
 
--- the board state with such a header, a roster and the words of a board is one that there can be
+-- a board state is one that there can be if its group and its edition are in range, its clubs are a roster, and its words those of a board
 board_state-good : (header : BoardHeader) (clubs : List NamedClub) (board : List ℕ) → IsHeader header → IsRoster clubs → AreWords board →
     IsBoardState (board_state_with header clubs board)
 board_state-good header clubs board t is w = record { letter = t.letter; edition = t.edition; clubs = is; words = w; bits = board-fits board w.each }
 
--- the reporter, the match and the expected number of an event that there can be fit 64 bits
+-- the reporter, the match and the expected event number of an event whose numbers are in range fit 64 bits
 numbers : (e : NightEvent) → IsPossible (Event e) → HasNumbers e
 numbers e p = record { reporter = omega (arith, p.0.0); game = omega (arith, p.0.1); expected = omega (arith, p.1) }
 
@@ -477,7 +478,7 @@ module _ (e : Session) (r : Said) (shown : List ℕ) (json : e.options.format �
   pub line-tells : CarriesAtMost (board_state_now (next e r)) (answer_said e r shown)
   line-tells = by-line (λ after text. CarriesAtMost (board_state_now after) text) e r shown (λ after. most-none (board_state_now after)) (λ clubs events is. (request-told clubs events is).most)
 
--- on an open board it tells the board state after it
+-- on an open board the JSON answer to a line tells the board state after it: it is the one before, or a newer one that the answer carries
 pub board-tells : (e : Session) (r : Said) (shown : List ℕ) → e.options.format ≡ Json → e.row < 2 ^ 64 → IsSound e → IsShown shown
     → (clubs : List NamedClub) (events : List StandingEvent) → e.phase ≡ open_at clubs events
     → Tells (board_state_with e.header clubs (board_in events)) (board_state_now (next e r)) (answer_said e r shown)

@@ -1,5 +1,5 @@
--- Runs of a driver, which takes bytes from a source, hands each line to a handler (a session, or a follower), and gives its answer to a
--- sink. A `Device` is both at one time: what the source has left and the sink has taken, each if known, and whether the sink has failed.
+-- Runs of a driver, whose handler is a session or a follower. A `Device` is a source and a sink at one time: what the source has left and
+-- the sink has taken, each if known, and whether the sink has failed.
 use Rattle.std.specs.Io.KnownBytes.{Appends, Consumes}
 use Rattle.std.specs.Prelude.{Bool, Err, IfErr, IfOk, IfSome, List, OnOk, Option, Result, length, true, ℕ}
 use Rattle.ucl_io.specs.Calls.{Device, HasEnded, LogsCalls, device}
@@ -12,15 +12,16 @@ use Rattle.ucl_io.specs.Serving.{is_source_failed}
 use Rattle.ucl_io.specs.declared.stream.Source as reads
 use Rattle.ucl_io.specs.declared.stream.Sink as writes
 
--- what is due of a handler: the text that answers the lines that end among some bytes, and a whole input. `Stops` holds if it stopped by a
--- fault when these bytes were taken, from a first device to a last; `Ends` if a run over these bytes ended well with this value
+-- what a run that hands lines to a handler owes: the text `so_far` for the lines that end among the bytes read, `whole` for a whole input.
+-- `Stops` says when the handler may stop by a fault: after these bytes, with source and sink (`Device`) so before and so after; `Ends` says
+-- which value a run over a whole input may return
 pub record Due (Value Fault : Type 0) : Type 1 where
   pub so_far : List ℕ → List ℕ
   pub whole : List ℕ → List ℕ
   pub Stops : List ℕ → Device → Device → Fault → Type 0
   pub Ends : Value → List ℕ → Type 0
 
--- since `left` these bytes were taken from the source, and since `taken` the sink got just the text that `so_far` makes of them
+-- the source has given these bytes (of `left`, `left_after` is left), and the sink has taken, behind `taken`, just the text `so_far bytes`
 abbrev pub IsOutSoFar : (List ℕ → List ℕ) → Option (List ℕ) → Option (List ℕ) → Option (List ℕ) → Option (List ℕ) → List ℕ → Type 0
 IsOutSoFar so_far left left_after taken taken_after bytes = Consumes left left_after bytes × Appends taken taken_after (so_far bytes)
 

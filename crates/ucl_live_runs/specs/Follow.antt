@@ -1,7 +1,4 @@
--- What a follower (`ucl_follow`) shows of the lines that it reads, of which each may carry a board state: a header (group, tie-break order,
--- edition), a roster and the twelve words of a board. It shows each that is newer than all before: of a later edition (a number from 0,
--- which rises with each mend), or of the same edition and a higher version (number of events). A record is the rows of a session, a run of
--- `ucl_live`, whose answers a follower reads.
+-- What a follower (`ucl_follow`) shows of the lines that it reads: each board state that is newer than all before.
 use Rattle.std.specs.List.{Contains, fold}
 use Rattle.std.specs.Prelude.{All, Bool, IfSome, List, None, Ok, Option, Some, [], false, flat_map, length, map, min, nat_lt, option_to_list, true, ℕ, ⊤}
 use Rattle.std.specs.Result.{is_ok}
@@ -47,7 +44,7 @@ abbrev pub is_later : BoardState → BoardState → Bool
 is_later board_state other =
     nat_lt other.header.edition board_state.header.edition || ((other.header.edition == board_state.header.edition) && nat_lt (version_of other.board) (version_of board_state.board))
 
--- whether a board state is later than the first, the newest that was shown, or none was shown
+-- whether a board state is later than the newest that was shown, the first argument; true if none was shown yet
 abbrev pub is_newer : Option BoardState → BoardState → Bool
 is_newer None board_state = true
 is_newer (Some newest) board_state = is_later board_state newest
@@ -154,7 +151,8 @@ abbrev pub IsNoNewer : FollowArgs → BoardState → Option BoardState → Type 
 IsNoNewer args board_state None = ⊤
 IsNoNewer args board_state (Some other) = (is_asked args.group args.profile other.header ≡ false) ⊎ (other ≡ board_state) ⊎ IsOlder board_state other
 
--- this board state is the latest of these lines: one carries it, it is as asked for, and each other as asked for is older
+-- this board state is the latest of these lines: one carries it, `args` asks for it, and each other that `args` asks for is older, and of
+-- its group and tie-break order
 pub record IsLatest (args : FollowArgs) (board_state : BoardState) (lines : List (List ℕ)) : Type 0 where
   pub carried : IsCarriedIn lines board_state
   pub asked : is_asked args.group args.profile board_state.header ≡ true
@@ -271,7 +269,7 @@ after_record options rows = after_lines (start_of options) (lines_of rows)
 abbrev pub answer_lines : LiveArgs → List ℕ → List (List ℕ)
 answer_lines options rows = whole_lines (live_text (start_of options) rows)
 
--- the second of these is none, or the same board state as the first, or a newer one of its group and its tie-break order
+-- if both are board states, the second is the first again, or a newer one of its group and tie-break order
 abbrev pub IsNoFall : Option BoardState → Option BoardState → Type 0
 IsNoFall None later = ⊤
 IsNoFall (Some earlier) None = ⊤

@@ -1,6 +1,5 @@
 -- A follower (`ucl_follow`) as a handler of lines: what it writes for a line, what it reports to the sink `others`, what a whole run comes
--- to, and how the program ends. A line may carry a board state: a header (group, tie-break order, edition), clubs and a board. It is shown
--- if it is newer than all before (of a later edition, or of more events); every other line is passed over.
+-- to, and how the program ends.
 use Rattle.std.specs.Io.KnownBytes.{Appends}
 use Rattle.std.specs.Prelude.{Bool, Err, List, None, Ok, Option, Result, Some, [], codes, decimal, false, get_or, length, set, true, ℕ}
 use Rattle.ucl_command.specs.declared.fault.LineFault.{LineFault}
@@ -61,14 +60,15 @@ reported_header state reported None = None
 reported_header state reported (Some board_state) =
     if is_asked state.group state.profile board_state.header then None else unreported reported board_state.header
 
--- the sink `others`, from `old` to `new`, gets the text which reports line number `row` for this header, as far as the sink does not fail,
+-- the sink for lines passed over, `old` and then `new`, gets the report of line number `row` with this header, as far as it does not fail,
 -- and the header gets its mark in `reported_after`; for None nothing changes
 abbrev pub Reports : {T : Type 0} → writes.Ghosts T → ℕ → Option BoardHeader → List Bool → T → List Bool → T → Type 0
 Reports sink row None reported old reported_after new = (reported_after ≡ reported) × (new ≡ old)
 Reports sink row (Some header) reported old reported_after new = (reported_after ≡ set reported (report_place header.group header.profile) true)
     × Prints (sink.failed new) (sink.taken old) (sink.taken new) (other_line row header)
 
--- a follower, `old` and then `new`, has handled this line. `sink` tells whether `others` has failed, and what it took
+-- a follower, `old` and then `new`, has handled this line: its state is that after the line, and its sink `others` got the report of it,
+-- if it is passed over for its group or order, the first time. `sink` tells what `others` took and whether it failed
 abbrev pub IsHandled : {T : Type 0} → writes.Ghosts T → Follower T → Follower T → List ℕ → Type 0
 IsHandled sink old new line = (new.shape ≡ old.shape) × (new.follow_state ≡ after_line old.follow_state line)
     × Reports sink (one_more old.follow_state.lines) (reported_header old.follow_state old.reported (parse_board_line line))
@@ -88,7 +88,7 @@ pub record StopsAtLine (args : FollowArgs) (bytes : List ℕ) (old new : Option 
   pub short : length (begun_line 4097 [] front) ≤ 4096
   pub out : Appends old new (follow_text args front)
 
--- what is due of a follower that reads lines (`Due`): its text; it stops only if out of memory, and returns its counts if it ends well
+-- what a follower owes for the lines that it reads: their text; it stops only if out of memory, and returns its counts if it ends well
 abbrev pub follow_due : FollowArgs → Due FollowSummary RunFault
 follow_due args = record {
   so_far = follow_text args;

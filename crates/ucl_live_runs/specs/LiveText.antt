@@ -1,6 +1,4 @@
--- The text of a session of `ucl_live`: what it answers to its lines. A line says (`Said`) a row of four fields, something else, or nothing.
--- A row names a club or the header of the board (group, tie-break order, edition), or makes a request: to enter an event, to show the board,
--- or to mend it. The answer to a bad row has its text, `shown`. A session keeps the events that stand, and its board is always theirs.
+-- The text of a session of `ucl_live`: what it answers to its lines. The answer to a bad row has its text, `shown`.
 use Rattle.std.specs.Prelude.{if◌then◌else◌, ◌++◌, ◌+◌, ◌∷◌, Err, List, Ok, Option, Result, [], length, unwrap_or, ℕ}
 use Rattle.ucl_board.specs.History.{sequential_reply}
 use Rattle.ucl_command.specs.declared.live.LiveArgs.{LiveArgs}
@@ -48,7 +46,8 @@ pub record Stage : Type 0 where
 abbrev pub stage : BoardHeader → Reached → Stage
 stage header phase = record { header = header; phase = phase }
 
--- header and phase after a mend of a row that says this, by the reply to it: a later edition, or why it is refused
+-- header and phase of an open board after a mend, which a row that says `said` asks for, by the reply to it: a later edition, with clubs
+-- and events as the mend makes them; or, if it is refused, as before
 abbrev pub mended_stage : BoardHeader → List NamedClub → List StandingEvent → Said → Mend → Result ℕ MendRefusal → Stage
 mended_stage header clubs events said mend (Ok edition) = stage (record header { edition = edition }) (open_at (clubs_after clubs said mend) (events_after events mend))
 mended_stage header clubs events said mend (Err refusal) = stage header (open_at clubs events)

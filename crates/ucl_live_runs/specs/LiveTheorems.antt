@@ -1,6 +1,5 @@
 -- What holds of all sessions of `ucl_live`. `Session` is one between two lines, `after_lines` the session after lines, `answers` their
--- answers. A line says (`Said`) a row of four fields, something else, or nothing. A request enters an event or shows the board; an attempt
--- is an event with its reporter; a history is a list of accepted events, legal if each is accepted after those before it.
+-- answers.
 use Rattle.std.specs.List.{fold}
 use Rattle.std.specs.Prelude.{Err, List, Ok, Result, [], false, length, ℕ, ⊤}
 use Rattle.ucl_board.specs.History.{Attempt, IsLegal, after_attempt, board_of, sequential_reply}
@@ -69,7 +68,8 @@ reply_by_history Text header row clubs history event = reply_line row history ev
 reply_by_history Json header row clubs history event =
     json_line (reply_value row event (sequential_reply history event.call) header (board_of (after_attempt history (attempt_of event))) clubs)
 
--- the answer to a request after a history: for an event its reply, and the screen after it if asked for; else what is to be shown
+-- the answer to a request after a history: for an event its reply, then the screen if the options ask for it; for a bad row that it is bad;
+-- for a request to show the board what it asks for; for a mend nothing
 abbrev pub answer_by_history : LiveArgs → BoardHeader → ℕ → List NamedClub → List Entry → Request → List ℕ → List ℕ
 answer_by_history options header row clubs history (Event event) shown =
     reply_by_history options.format header row clubs history event
@@ -126,14 +126,15 @@ unfoldable pub SessionsAreSequential : Type 0
 SessionsAreSequential = (session : Session) (lines : List (List ℕ)) (clubs : List NamedClub) (events : List StandingEvent) → IsLegal (history_in events)
     → session.phase ≡ open_at clubs events → NoneMends session.row lines → IsSequential session lines clubs events
 
--- a session has gone on from these clubs and these events by a mend of a row that says this: in a later edition with what the mend makes
--- of both, or, if it is refused, as before
+-- a session, `old` and then `new`, whose open board had these clubs and events was mended as a row that says `said` asks: it is in a later
+-- edition, with clubs and events as the mend makes them; or, if the mend is refused, as before
 abbrev pub IsMended : Session → Session → List NamedClub → List StandingEvent → Said → Mend → Result ℕ MendRefusal → Type 0
 IsMended old new clubs events said mend (Ok edition) =
     (new.header ≡ record old.header { edition = edition }) × (new.phase ≡ open_at (clubs_after clubs said mend) (events_after events mend))
 IsMended old new clubs events said mend (Err refusal) = (new.header ≡ old.header) × (new.phase ≡ open_at clubs events)
 
--- theorem: after a mend an open board is that of the events that the mend makes of those that stand, or it stays, if the mend is refused
+-- theorem: a line that asks for a mend brings an open board to a later edition, with clubs and events as the mend makes them; if it is
+-- refused, nothing changes
 unfoldable pub MendsAreDone : Type 0
 MendsAreDone = (session : Session) (said : Said) (clubs : List NamedClub) (events : List StandingEvent) (mend : Mend) → session.phase ≡ open_at clubs events
     → request_of said ≡ Mends mend → IsMended session (next session said) clubs events said mend (edition_reply session.header.edition events mend)

@@ -24,14 +24,15 @@ OtherMatchesStay = (row game : ℕ) (events : List StandingEvent) → IsLegal (h
     → All (λ event. event.row ≡ row → event.entry.game ≢ game) events
     → events_of game (mended row events) ≡ events_of game events
 
--- with more events behind these, a mend keeps first those that it kept of these, and leaves out first those that it left out of these; if
--- then it leaves out no more, and none of the later ones has the row that is named, it keeps all of them
+-- if more events follow these, a mend keeps first what it kept of these alone, and leaves out first what it left out of these alone; if it
+-- leaves out no others, and none of those that follow has the named row, it keeps all that follow
 pub record GoesOn (row : ℕ) (events more : List StandingEvent) : Type 0 where
   pub kept : IsPrefix (mended row events) (mended row (events ++ more))
   pub left : IsPrefix (left_out row events) (left_out row (events ++ more))
   pub same : left_out row (events ++ more) ≡ left_out row events → All (λ event. event.row ≢ row) more
       → mended row (events ++ more) ≡ mended row events ++ more
 
--- theorem: events that are entered later leave what a mend makes of those before as it was
+-- theorem: a mend does the same with a list of events whether more follow or not; it keeps all that follow if it leaves out and names none
+-- of them
 unfoldable pub LaterEventsGoOn : Type 0
 LaterEventsGoOn = (row : ℕ) (events more : List StandingEvent) → GoesOn row events more

@@ -45,17 +45,18 @@ abbrev pub fate_by : Result Accepted Refusal → Fate
 fate_by (Ok accepted) = Kept
 fate_by (Err refusal) = Refused refusal
 
--- what becomes of an event after those that are kept, if this row is named
+-- the fate of an event in a mend that names this row, after the events kept so far: `Named` if it has this row, else kept or refused by the
+-- rules, when it is entered again after them
 abbrev pub fate_of : ℕ → List StandingEvent → StandingEvent → Fate
 fate_of row kept event =
     if event.row == row then Named else fate_by (sequential_reply (history_in kept) (call_again (history_in kept) event.entry))
 
--- the events that are kept after one more, of which this becomes
+-- the events kept so far, with this event at their end if its fate is to be kept
 abbrev pub kept_by : List StandingEvent → StandingEvent → Fate → List StandingEvent
 kept_by kept event Kept = kept ++ event ∷ []
 kept_by kept event fate = kept
 
--- the events that are kept after one more, if this row is named
+-- the events kept so far, with this event at their end if a mend that names this row keeps it
 abbrev pub kept_after : ℕ → List StandingEvent → StandingEvent → List StandingEvent
 kept_after row kept event = kept_by kept event (fate_of row kept event)
 
@@ -63,13 +64,13 @@ kept_after row kept event = kept_by kept event (fate_of row kept event)
 abbrev pub mended : ℕ → List StandingEvent → List StandingEvent
 mended row events = fold (kept_after row) [] events
 
--- the event that is left out, as a list, if this becomes of it
+-- an event with its refusal, as a list of one, if its fate is to be refused; else the empty list
 abbrev pub left_by : StandingEvent → Fate → List LeftOut
 left_by event (Refused refusal) = record { event = event; refusal = refusal } ∷ []
 left_by event fate = []
 
--- those of these events that a mend which names this row leaves out after those that are kept, each with its refusal; the event of the
--- named row is left out too, but has no refusal and is not in the list
+-- of these events, those that a mend which names this row leaves out because the rules refuse them after the events kept so far, each with
+-- its refusal; the event of the named row goes too, but has no refusal and is not in the list
 unfoldable pub left_out_after : ℕ → List StandingEvent → List StandingEvent → List LeftOut
 left_out_after row kept [] = []
 left_out_after row kept (event ∷ events) = left_by event (fate_of row kept event) ++ left_out_after row (kept_after row kept event) events

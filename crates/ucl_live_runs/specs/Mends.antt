@@ -41,7 +41,7 @@ abbrev pub events_after : List StandingEvent → Mend → List StandingEvent
 events_after events (Without row) = mended row events
 events_after events _ = events
 
--- these clubs with this one in a slot, if there is one that a roster takes; else as they are
+-- these clubs with this club in a slot, if a roster takes it; else, or for None, as they are
 abbrev pub put_in : ℕ → List NamedClub → Option NamedClub → List NamedClub
 put_in slot clubs None = clubs
 put_in slot clubs (Some club) = if is_club club then set clubs (slot - 1) club else clubs
@@ -55,12 +55,12 @@ put_at clubs fields (Some slot) = put_in slot clubs (club_of slot fields)
 abbrev pub clubs_with : List NamedClub → FourFields → List NamedClub
 clubs_with clubs fields = put_at clubs fields (slot_in fields.second)
 
--- the clubs after the mend of a row that says this, if it is not refused
+-- the clubs after a mend that is not refused: if it puts in a club, those with the club that its row, which says this, names; else the same
 abbrev pub clubs_after : List NamedClub → Said → Mend → List NamedClub
 clubs_after clubs (Row fields) Club = clubs_with clubs fields
 clubs_after clubs said mend = clubs
 
--- the events that a mend leaves out, as the rules then refuse them
+-- the events that a mend leaves out because the rules then refuse them, each with its refusal; none if the mend takes back no event
 abbrev pub left_out_by : List StandingEvent → Mend → List LeftOut
 left_out_by events (Without row) = left_out row events
 left_out_by events _ = []
@@ -91,6 +91,6 @@ abbrev pub mend_refused_answer : Format → ℕ → MendRefusal → List ℕ
 mend_refused_answer Text row refusal = decimal row ++ codes " refused " ++ decimal (mend_refusal_code refusal) ++ codes " " ++ mend_refusal_name refusal ++ codes "\n"
 mend_refused_answer Json row refusal = json_line (mend_refused_value row (mend_refusal_code refusal) (mend_refusal_name refusal))
 
--- the code has written these events that a mend leaves out, and counted them
+-- `lines`, a value of the code, holds the JSON lines of these events that a mend leaves out, and how many they are
 abbrev pub HoldsLeftOut : LeftOutLines → List LeftOut → Type 0
 HoldsLeftOut lines left = (string_bytes lines.text ≡ left_out_lines left) × (lines.count ≡ length left)

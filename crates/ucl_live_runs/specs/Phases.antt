@@ -1,6 +1,4 @@
--- How far a session of `ucl_live` is (its phase), what a row makes of it, and the faults by which it ends. Its first rows name its clubs,
--- by slots 1 to 4; before them may come the row of a group, which names a header: group, tie-break order, edition. Then the board is open.
--- `Said` is what a line says: a row of four fields, something else, or nothing. A roster takes names of 1 to 20 bytes.
+-- How far a session of `ucl_live` is (its phase), what a row makes of it, and the faults by which it ends.
 use Rattle.std.specs.Prelude.{Err, List, None, Ok, Option, Result, Some, [], codes, length, min, ℕ}
 use Rattle.ucl_command.specs.declared.live.LiveArgs.{LiveArgs}
 use Rattle.ucl_json.specs.declared.header.BoardHeader.{BoardHeader}
@@ -21,7 +19,7 @@ use Rattle.ucl_live_runs.specs.Requests.{header_said, is_asked, is_group_row}
 abbrev pub Reached : Type 0
 Reached = Result Phase LiveFault
 
--- a session has reached the phase in which its board is open, with these clubs, and these events stand
+-- what a session has reached if its board is open, with these clubs, and these events stand
 abbrev pub open_at : List NamedClub → List StandingEvent → Reached
 open_at clubs events = Ok (Open (record { roster = clubs; events = events }))
 

@@ -1,7 +1,5 @@
--- What a row of `ucl_live` asks for, and the header that it names. A row has four fields: an event (`3,7,0,kickoff`: reporter, match,
--- expected event number, kind), what to show of the board (`screen,,,`, `words,,,`, `matches,,,`), a mend (`mend,17,,`, which takes the
--- event of a row back; `mend,,15,`, which names a later edition; `club,1,Alpha,60000`, which puts a club in its slot), or the header of a
--- board (`group,B,uefa,0`: group, tie-break order, edition).
+-- What a row of `ucl_live` asks for, and the header that it names: an event (`3,7,0,kickoff`), what to show (`screen,,,`, `words,,,`,
+-- `matches,,,`), a mend (`mend,17,,`, `mend,,15,`, `club,1,Alpha,60000`), or the header of a board (`group,B,uefa,0`).
 use Rattle.std.specs.Prelude.{Bool, List, None, Option, Some, [], codes, false, length, nat_le, option_map, true, unwrap_or, ℕ}
 use Rattle.ucl_command.specs.declared.live.LiveArgs.{LiveArgs}
 use Rattle.ucl_json.specs.declared.header.BoardHeader.{BoardHeader}

@@ -1,6 +1,5 @@
 -- A session of `ucl_live` as a handler of lines: what it answers, when it has no answer, what a whole run comes to, and how the program
--- ends. `Said` is what a line says: a row of four fields, something else, or nothing. A session is refused if its first rows do not name
--- its four clubs. `begun` is a last line without a line feed. A `Device` is a source and a sink at one time.
+-- ends. `begun` is a last line without a line feed.
 use Rattle.std.specs.Io.KnownBytes.{Appends}
 use Rattle.std.specs.Prelude.{Err, List, None, Ok, Option, Result, Some, [], ℕ, ⊤}
 use Rattle.ucl_command.specs.declared.fault.LineFault.{LineFault}
@@ -70,7 +69,7 @@ answers_to start bytes = answers start (ended_lines 258 [] bytes)
 abbrev pub after_bytes : Session → List ℕ → Session
 after_bytes start bytes = after_lines start (ended_lines 258 [] bytes)
 
--- what is out are the answers, whole, to the first of the lines that end among these bytes
+-- from `old` to `new` the sink took just the answers, whole, to the lines that end among a prefix, `front`, of these bytes
 pub record IsOutInPart (start : Session) (bytes : List ℕ) (old new : Device) : Type 0 where
   pub front : List ℕ
   pub rest : List ℕ
@@ -83,7 +82,7 @@ pub record IsRejected (start : Session) (bytes : List ℕ) (old new : Device) (f
       ⊎ (HasEnded old.left new.left × (missing_after start bytes ≡ Some fault))
   pub out : Appends old.taken new.taken []
 
--- what is due of a session that reads lines (`Due`): its answers; it stops if out of memory or refused, and ends well only with all clubs
+-- what a session owes for the lines that it reads: their answers; it stops if out of memory or refused, and ends well only with all clubs
 abbrev pub session_due : Session → Due ⊤ LiveFault
 session_due start = record {
   so_far = answers_to start;

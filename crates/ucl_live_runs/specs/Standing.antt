@@ -16,7 +16,8 @@ pub record IsMendedSoFar (row : ℕ) (events : List StandingEvent) (board : List
   pub legal : IsLegal (history_in (mended row events))
   pub board_is : board_of (history_in (mended row events)) ≡ board
 
--- a mend that names this row goes through one event more, of which this becomes; `board` is the board before it, and `board2` after it
+-- a mend that names this row goes on by one event, whose fate is `fate`; `board` is the board of what it kept before, `board2` of what it
+-- keeps after it
 abbrev pub MendsOneMore : ℕ → StandingEvent → Fate → List ℕ → List ℕ → Type 0
 MendsOneMore row event fate board board2 = (events : List StandingEvent) → IsMendedSoFar row events board
     → (fate ≡ fate_of row (mended row events) event) × IsMendedSoFar row (events ++ event ∷ []) board2

@@ -1,5 +1,4 @@
-//! The row of a club on an open board: `club,2,Bravo,95000`. A slot, 1 to 4, is the number of a club. A roster takes names of 1 to 20
-//! printable bytes and coefficients of at most 999,999.
+//! The row of a club on an open board: `club,2,Bravo,95000`.
 
 ghost use Rattle.std.specs.Prelude.{◌≡◌, IfSome};
 ghost use Rattle.ucl_board.specs.Fixtures.{IsSlot};

@@ -1,5 +1,4 @@
-//! What `ucl_follow` does for its arguments: it reads lines, of which some carry a board state (group, tie-break order, edition, clubs,
-//! twelve words), shows each that is newer than all before, and passes over all others. The edition, from 0 on, rises with each mend.
+//! What `ucl_follow` does for its arguments.
 
 ghost use Rattle.std.specs.Prelude.{◌≡◌};
 ghost use Rattle.ucl_screen.specs.Screen.{IsGroup};

@@ -1,6 +1,4 @@
-//! Theorems on what a follower (`ucl_follow`) shows; the functions do nothing, their contracts state the theorems. Lines carry board
-//! states: group, tie-break order, edition (from 0; it rises with each mend), clubs, words. One is newer than another if its
-//! edition is later, or the same and its version (its number of events) is higher. A record is the input of a session, a run of `ucl_live`.
+//! Theorems on what a follower (`ucl_follow`) shows. The functions do nothing: each is there for its contract.
 #![tactic(auto, using(crate::proofs::Theorems::follow_theorems))]
 
 ghost use Rattle.ucl_live_runs.specs.Follow.{AnswersNeverFall, AnswersTellTheirBoardState, FollowersEndWithTheBoard, LatestIsShownLast, LinesTellTheirBoardState, MatchesFitTheirLine, OthersDoNotMatter, RepeatedRowsChangeNothing, SameRowsSameTable, ShownVersionsRise};
@@ -10,7 +8,8 @@ pub fn versions_rise()
     ensures { ShownVersionsRise }
 {}
 
-/// States that if a line carries a board state as asked, and each other one as asked is older and of its group and order, it is shown last.
+/// States that a board state that a line carries and the arguments ask for is shown last, if each other that they ask for is older, and of
+/// its group and order.
 pub fn latest_is_shown_last()
     ensures { LatestIsShownLast }
 {}

@@ -1,6 +1,4 @@
-//! A follower (`ucl_follow`) reads lines, of which each may carry a board state in JSON, and shows each that is newer than all before. A
-//! board state is a header (group, tie-break order, edition), a roster of four clubs and twelve words, one per match. An edition is a
-//! number from 0, which rises with each mend. Newer: of a later edition, or of the same and a higher version (more events).
+//! A follower (`ucl_follow`): it reads lines, and shows each board state that is newer than all before.
 
 ghost use Rattle.std.specs.Prelude.{◌≡◌, ◌<◌, ◌≤◌, ⊤, [], length, IfOk};
 ghost use Rattle.ucl_rows.specs.declared.fault.RunFault.TheVariants.{OutOfMemory};

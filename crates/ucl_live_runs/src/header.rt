@@ -1,5 +1,4 @@
-//! The header of a board, as the row `group,B,uefa,0` names it: its group (A to H), its tie-break order (a profile: `uefa` or
-//! `away-in-tie`), and its edition, a number from 0 that rises with each mend. A row is what one line of the input says.
+//! The header of a board, as the row `group,B,uefa,0` names it: its group, its profile, and its edition.
 
 ghost use Rattle.std.specs.Prelude.{◌≡◌, IfSome};
 ghost use Rattle.ucl_screen.specs.Rows.{four_seen};

@@ -1,6 +1,5 @@
-//! The runs of `ucl_live` and `ucl_follow`, over any source of bytes and any sink: `live_run` answers rows through a session, as they come;
-//! `follow_run` follows the answers of a session in JSON. `run_session` and `run_following` do what the arguments of these programs ask
-//! for. Scripts, sheets and nights are in `ucl_runs`.
+//! The runs of `ucl_live` and `ucl_follow`, over any source and any sink: `live_run` answers rows through a session, `follow_run` follows
+//! the answers of a session in JSON, and `run_session` and `run_following` do what the arguments of these programs ask for.
 #![tactic(auto)]
 
 mod clubs;

@@ -1,4 +1,4 @@
-//! The faults of a session, a run of `ucl_live`. Its first rows name four clubs, in slots 1 to 4; before them may come its group.
+//! The faults of a session, a run of `ucl_live`.
 
 ghost use Rattle.std.specs.Prelude.{◌≡◌};
 ghost use Rattle.ucl_rows.specs.declared.fault.RunFault.TheVariants.{OutOfMemory};
@@ -20,6 +20,7 @@ pub enum LiveFault {
 impl From<RunFault> for LiveFault {
     ghost from_gives = { λ fault f. f ≡ Run fault };
 
+    /// Returns the fault of a session that stops by this fault of its rows, of memory or of a device.
     fn from(fault: RunFault) -> LiveFault {
         LiveFault::Run(fault)
     }
@@ -28,6 +29,7 @@ impl From<RunFault> for LiveFault {
 impl From<AllocError> for LiveFault {
     ghost from_gives = { λ _ f. f ≡ Run OutOfMemory };
 
+    /// Returns the fault of a session that is out of memory.
     fn from(_error: AllocError) -> LiveFault {
         LiveFault::Run(RunFault::OutOfMemory)
     }
@@ -36,6 +38,7 @@ impl From<AllocError> for LiveFault {
 impl From<ucl_word::OutOfMemory> for LiveFault {
     ghost from_gives = { λ _ f. f ≡ Run OutOfMemory };
 
+    /// Returns the fault of a session that is out of memory.
     fn from(_error: ucl_word::OutOfMemory) -> LiveFault {
         LiveFault::Run(RunFault::OutOfMemory)
     }

@@ -1,6 +1,4 @@
-//! Theorems on all sessions (runs of `ucl_live`); the functions do nothing, their contracts state the theorems. A session reads rows: four
-//! clubs, then events, mends and requests to show the board, which it answers. A history is a list of accepted events, legal if each is
-//! accepted after those before it.
+//! Theorems on all sessions (runs of `ucl_live`). The functions do nothing: each is there for its contract.
 #![tactic(auto, using(crate::proofs::Theorems::live_theorems))]
 
 ghost use Rattle.ucl_live_runs.specs.LiveTheorems.{BeginningsAreAnswered, BoardsTakeEvents, SessionsAreSequential, JsonAnswersAreLines, LinesAreReadWhole, MendsAreDone, RefusedSessionsAreSilent, RepliesAreThoseOfFeed};
@@ -23,8 +21,8 @@ pub fn sessions_are_sequential()
     ensures { SessionsAreSequential }
 {}
 
-/// States that after a mend the board is that of the events that the mend makes of those that stand, in a later edition, or that all stays,
-/// if the mend is refused.
+/// States that a line that asks for a mend brings an open board to a later edition, with clubs and events as the mend makes them; or that
+/// all stays, if the mend is refused.
 pub fn mends_are_done()
     ensures { MendsAreDone }
 {}

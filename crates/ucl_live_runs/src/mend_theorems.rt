@@ -20,8 +20,7 @@ pub fn other_matches_stay()
     ensures { OtherMatchesStay }
 {}
 
-/// Events that are entered later leave what a mend makes of those before as it was; and if it leaves out no more than before, and none of
-/// the later ones has the row that is named, it keeps all of them.
+/// A mend does the same with a list of events whether more follow or not; it keeps all that follow if it leaves out and names none of them.
 #[tactic(auto, using(crate::proofs::Mends::later_events))]
 pub fn later_events_go_on()
     ensures { LaterEventsGoOn }

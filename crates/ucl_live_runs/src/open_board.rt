@@ -73,7 +73,8 @@ impl OpenBoard {
         }
     }
 
-    /// Takes the event of a row back, or puts the club that `said` names in its slot.
+    /// Does a mend that is not refused: takes back the event of a row, or puts the club that `said` names in its slot, or changes nothing,
+    /// if it only sets the edition.
     fn change(&mut self, edition: u16, mend: Mend, said: &RowFields<'_>)
         requires { IsOk (edition_reply edition self.old.events mend) }
         ensures { self.new ≡ record self.old {

@@ -1,6 +1,4 @@
-//! How far a session of `ucl_live` is, its phase. Its first rows name its clubs, by slots 1 to 4 (`club,1,Alpha,60000`); before them may
-//! come the row that names its header (`group,B,uefa,0`: group, tie-break order, edition). Then its board is open. Else it is refused. A
-//! roster takes a club with a name of 1 to 20 printable bytes and a coefficient of at most 999,999.
+//! How far a session of `ucl_live` is: its first rows name its header and its clubs, and then its board is open.
 
 ghost use Rattle.std.specs.Prelude.{◌≡◌, ◌+◌, ◌-◌, ◌<◌, ◌≤◌, ◌++◌, [], ◌∷◌, IfOk, Ok, OnOk, length, map, option_map};
 ghost use Rattle.ucl_order.specs.Roster.{bad_slot, club_seen};
@@ -143,7 +141,8 @@ fn opened(alloc: Global, clubs: [Club; 4]) -> Result<Phase, LiveFault>
     }
 }
 
-/// Returns the phase after a line, which names the club after `clubs`. Fails if it does not, no roster takes it, or out of memory.
+/// Returns the phase after a line that has to name the next club after `clubs`. Fails if it names none, if four clubs are no roster, or if
+/// out of memory.
 pub(crate) fn with_club(
     alloc: Global,
     line: &Line<'_, '_>,

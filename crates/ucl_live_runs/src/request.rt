@@ -1,6 +1,5 @@
-//! What a row of `ucl_live` asks for: to enter an event (`3,7,0,kickoff`: reporter, match, the number of events that the reporter expects
-//! the match to have, kind), to show the board (`screen,,,`, `words,,,`, `matches,,,`), or a mend: to take the event of a row back
-//! (`mend,17,,`), to go on in a later edition (`mend,,15,`), or to put a club in its slot (`club,2,Bravo,95000`).
+//! What a row of `ucl_live` asks for: to enter an event (`3,7,0,kickoff`), to show the board (`screen,,,`, `words,,,`, `matches,,,`), or a
+//! mend: of a row (`mend,17,,`), of the edition (`mend,,15,`), or of a club (`club,2,Bravo,95000`).
 
 ghost use Rattle.std.specs.Prelude.{◌≡◌};
 ghost use Rattle.ucl_order.specs.Roster.{club_lent, is_club};

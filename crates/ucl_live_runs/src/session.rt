@@ -44,7 +44,7 @@ impl Session {
         }
     }
 
-    /// Answers the row on any line, as `answer` does.
+    /// Answers a line of any form. Before the board is open, the line has to name the group or a club, and its answer is empty.
     fn answer_other(&mut self, row: u64, text: &[u8], answer: &mut Answer) -> Result<(), LiveFault>
         ensures next { OnOk result (session_of self.new (row + 1) ≡ next (session_of self.old row) (said_on row text.now)) }
         ensures text { OnOk result (bytes_of answer.new
@@ -90,8 +90,8 @@ impl LineHandler for Session {
 
     ghost stops_at_end = { λ m row begun _ fault. HasNoEnd (session_of m row) begun fault };
 
-    /// Answers the row on the line: none is an empty answer, and several, or one that is too long, are a bad row. Until the board is open a
-    /// row names the group or a club, and its answer is empty.
+    /// Answers a line: an empty one gets an empty answer, and one of several rows, or too long, is a bad row. Until the board is open a row
+    /// names the group or a club, and its answer is empty.
     fn answer(&mut self, row: u64, text: &[u8], answer: &mut Answer) -> Result<(), LiveFault> {
         if let Phase::Open(table) = &mut self.phase {
             if let Some(four) = plain_row(row, text) {

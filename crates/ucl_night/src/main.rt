@@ -1,7 +1,5 @@
-//! The program for the board of one group of the UEFA Champions League: `ucl_night feed` enters a script of events, and
-//! writes what became of each event and how the twelve matches stand; `ucl_night show` writes the screen of a board that
-//! was written down; `ucl_night night` has two reporters enter a script in threads of their own while two readers look on,
-//! and writes their last screens and the closing one.
+//! The program for the board of one group of the UEFA Champions League: `feed` enters a script of events, `show` writes the screen of a
+//! sheet, and `night` has two reporters enter a script in threads of their own while two readers look on.
 #![tactic(auto)]
 
 use std::process::ExitCode;
@@ -15,7 +13,7 @@ pub use ucl_runs::{
 use ucl_screen::{FromRead, ToWrite};
 use ucl_words::WordBoard;
 
-/// Runs the program over its arguments and the standard streams. Only a night takes the handle of the run, so nothing else can wait.
+/// Runs the program over its arguments and the standard streams. Of its runs only a night is given `rt`, without which none can wait.
 /// Standard output has no buffer, so that nothing is left to flush.
 fn main(rt: HostRuntime) -> ExitCode {
     let alloc = rt.alloc();

@@ -5,7 +5,7 @@ use Rattle.ucl_order.proofs.Common.{cases_Bool, inl, inr, nat_tests, slice_index
 use Rattle.std.proofs.lemmas.List.{get_or-map}
 use Rattle.ucl_order.proofs.Slots.{by_four}
 
--- each of the four members of a roster shows a good club
+-- each of the four members of a roster, which are its clubs as the code keeps them, has a valid name and a valid coefficient
 pub member_good : (members : List Member) (i : ℕ) (m : Member) → IsRoster (members_seen members) → i < 4 → IsClub (member_seen (slice_index_or members i m))
 member_good members i m roster within =
     let same = get_or-map member_seen members i m (member_seen m) in
@@ -14,7 +14,7 @@ member_good members i m roster within =
     let inside_too : i < length (members_seen members) = omega arith in
     subst IsClub (same inside) (All-get_or IsClub (members_seen members) i (member_seen m) inside_too roster.each)
 
--- each of the four members of a roster has a good name
+-- each of the four members of a roster has a valid name: 1 to 20 bytes of printed ASCII
 pub name_good : (members : List Member) (i : ℕ) (m : Member) → IsRoster (members_seen members) → i < 4 → is_name (slice_index_or members i m).name.items ≡ true
 unfolding is_club
 name_good members i m roster within = (and_parts _ _ (member_good members i m roster within)).0
@@ -27,7 +27,7 @@ coefficient_good members i m roster within =
     (and_parts (is_name (slice_index_or members i m).name.items) _ (member_good members i m roster within)).1 in
     grind (arith, nat_tests)
 
--- an array of four is the list of what stands at its places
+-- a list of length 4 is the list of its elements at the places 0 to 3
 pub four-places : {X : Type 0} → (xs : List X) (a b c d : X) → length xs ≡ 4
     → a ≡ slice_index_or xs 0 a → b ≡ slice_index_or xs 1 b → c ≡ slice_index_or xs 2 c → d ≡ slice_index_or xs 3 d
     → xs ≡ a ∷ b ∷ c ∷ d ∷ []
@@ -36,18 +36,19 @@ four-places xs a b c d n p q r s =
     → xs ≡ a ∷ b ∷ c ∷ d ∷ [])
     (λ w x y z p q r s. cc) xs n p q r s
 
--- the club is good, and the member, which the roster keeps, shows that club
+-- the club has a valid name and coefficient, and the member, which is a club as a roster of the code keeps it, has the same ones
 pub record IsTaken (club : NamedClub) (member : Member) : Type 0 where
   pub good : IsClub club
   pub same : member_seen member ≡ club
 
--- what the roster keeps of four good clubs shows those clubs, and none of their slots is bad
+-- if four clubs are valid, and four members of a roster have their names and coefficients, the members are these clubs, and no slot is bad
 pub four-taken : (a b c d : NamedClub) (w x y z : Member) → IsTaken a w → IsTaken b x → IsTaken c y → IsTaken d z
     → (members_seen (w ∷ x ∷ y ∷ z ∷ []) ≡ a ∷ b ∷ c ∷ d ∷ []) × (bad_slot (a ∷ b ∷ c ∷ d ∷ []) ≡ None)
 unfolding bad_slot_from
 four-taken a b c d w x y z p q r s = (rw (p.same, q.same, r.same, s.same), rw (p.good, q.good, r.good, s.good))
 
--- what the roster keeps of four good clubs that are lent shows those clubs, and none of their slots is bad
+-- if four clubs, whose names are borrowed, are valid, and four members of a roster have the same names and coefficients, the members are
+-- these clubs, and no slot is bad
 pub four-lent : (clubs : List LentClub) (p q r s : LentClub) (w x y z : Member) → length clubs ≡ 4
     → IsClub (club_lent (slice_index_or clubs 0 p)) × (member_seen w ≡ club_lent (slice_index_or clubs 0 p))
     → IsClub (club_lent (slice_index_or clubs 1 q)) × (member_seen x ≡ club_lent (slice_index_or clubs 1 q))
@@ -59,7 +60,7 @@ four-lent (e ∷ f ∷ g ∷ h ∷ []) p q r s w x y z n a b c d =
     (record { good = a.0; same = a.1 }) (record { good = b.0; same = b.1 }) (record { good = c.0; same = c.1 }) (record { good = d.0; same = d.1 })
 four-lent clubs p q r s w x y z n a b c d = absurd (omega arith)
 
--- if no slot of a list of clubs is bad, each of the clubs is good
+-- if no slot of a list of clubs is bad, each club has a valid name and a valid coefficient
 clubs-good : (slot : ℕ) (clubs : List NamedClub) → bad_slot_from slot clubs ≡ None → All IsClub clubs
 unfolding bad_slot_from
 clubs-good slot [] none = All-nil IsClub
@@ -68,6 +69,6 @@ clubs-good slot (club ∷ clubs) none = elim (cases_Bool (is_club club)) [
   | inr bad ↦ cc (rw bad at none)
 ]
 
--- four clubs of which none is bad are a roster
+-- four clubs, none with a bad name or a bad coefficient, are a roster
 pub good_four : (clubs : List NamedClub) → length clubs ≡ 4 → bad_slot clubs ≡ None → IsRoster clubs
 good_four clubs four none = record { four = four; each = clubs-good 1 clubs none }

@@ -9,7 +9,8 @@ use Rattle.std.proofs.Math.ListN.{get_or-map}
 coefficient-is : (clubs : List NamedClub) (slot : ℕ) → coefficient_of clubs slot ≡ get_or (coefficients_in clubs) (slot - 1) 0
 coefficient-is clubs slot = sym (get_or-map (λ (club : NamedClub). club.coefficient) clubs (slot - 1) (record { name = []; coefficient = 0 }))
 
--- a class that is settled one way or the other
+-- a tied set is ordered alike by equal comparisons f and g and by equal functions p and q on classes: by f if it is one class, else by p,
+-- class by class
 either : (one_class : Bool) (f g : Ranking) (p q : List ℕ → List ℕ) (tied : List ℕ) (classes : List (List ℕ)) → f ≡ g → p ≡ q
     → (if one_class then flat_map (λ class. class) (split f tied) else flat_map p classes) ≡ (if one_class then flat_map (λ class. class) (split g tied) else flat_map q classes)
 either one_class f g p q tied classes e d =
@@ -44,6 +45,6 @@ module _ (one other : List NamedClub) (same : coefficients_in one ≡ coefficien
       ap (λ (order : List ℕ). let slot : ℕ = slice_index order (place - 1) in row_with place slot (mark_by (matches_of board) order slot) (started_of board))
       (order-same profile board)
 
--- of two rosters with the same coefficients, slot by slot, the table of a board is the same
+-- two rosters with the same coefficients, slot by slot, give the same table of a board
 pub table-same : TableGoesByCoefficients
 table-same profile board one other same = ap (λ (row : ℕ → Row). map row (1 ∷ 2 ∷ 3 ∷ 4 ∷ [])) (fun_ext (row-same one other same profile board))

@@ -55,7 +55,8 @@ unfoldable pub use Rattle.ucl_order.specs.Results.{totals}
 pub use Rattle.ucl_order.specs.Roster.{IsClub, IsRoster, NamedClub, bad_slot, club_lent, club_seen, coefficient_of, coefficients_in}
 pub use Rattle.ucl_order.specs.Roster.{is_name, member_seen, members_seen}
 unfoldable pub use Rattle.ucl_order.specs.Roster.{bad_slot_from, is_club}
-pub use Rattle.ucl_order.specs.Rounds.{AreFalling, AreLast, Entry, IsAtLeast, counted, is_level, key_at, results_of_clubs, tied_results}
+pub use Rattle.ucl_order.specs.Rounds.{AreFalling, AreLast, IsAtLeast, RankedClub, counted, is_level, key_at, results_of_clubs}
+pub use Rattle.ucl_order.specs.Rounds.{tied_results}
 unfoldable pub use Rattle.ucl_order.specs.Rounds.{keys_after, next_key, next_keys, tied_pairs, tied_with}
 pub use Rattle.ucl_order.specs.Rows.{IsWithinTable, MarkIsCertain, row_with, rows_of}
 unfoldable pub use Rattle.ucl_order.specs.Rows.{row_of}

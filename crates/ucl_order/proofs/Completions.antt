@@ -70,26 +70,27 @@ module _ (key : ℕ → ℕ) (club : ℕ) where
       let few : count_by passes o ≤ 1 = by_four (λ o. Falls key o → is_in (take 2 o) club ≡ true → count_by passes o ≤ 1) few_pass o long down member in
       omega arith)
 
--- a match that is finished has the state of one
+-- a state that the test finds finished is `Finished`
 is_done : (s : State) → is_finished s ≡ true → s ≡ Finished
 is_done s h = search arith
 
--- the matches of these numbers on a board
+-- the matches of a board, the first list, that have the numbers of the second list
 board_part : List ℕ → List ℕ → List Match
 board_part board games = map (match_at board) games
 
--- the points of a club in a completion lie between those that are sure and those that it can reach
+-- in the matches numbered `games` the club has on the board `later` at least its points from those that are finished on `board`, and at
+-- most three more for each of the others that it plays
 record Between (club : ℕ) (games board later : List ℕ) : Type 0 where
   low : points club (finished (board_part board games)) ≤ points club (started (board_part later games))
   high : points club (started (board_part later games)) ≤ points club (finished (board_part board games)) + 3 * played club (unfinished (board_part board games))
 
--- whether a club plays in a match does not depend on the numbers of the match
+-- a club plays in a match once or not at all, and this does not depend on the goals and cards of the match
 plays_alike : (at_home away : Bool) (h v h' v' : Appearance)
     → plays (if at_home then Some h else (if away then Some v else None)) ≡ plays (if at_home then Some h' else (if away then Some v' else None))
 unfolding plays
 plays_alike at_home away h v h' v' = search arith
 
--- who plays does not depend on what is known of the match
+-- a club plays in a match on one board exactly if it plays in the match of the same number on another
 plays_same : (club game : ℕ) (board later : List ℕ) → plays (seen_by club (match_at later game)) ≡ plays (seen_by club (match_at board game))
 plays_same club game board later = plays_alike ((fixture_of game).home == club) ((fixture_of game).away == club) _ _ _ _
 
@@ -97,7 +98,8 @@ plays_same club game board later = plays_alike ((fixture_of game).home == club) 
 match_kept : (board later : List ℕ) (game : ℕ) → game_at later game ≡ game_at board game → match_at later game ≡ match_at board game
 match_kept board later game e = rw e
 
--- what a club has in a completion lies between its points from finished matches and three more for each other match
+-- in a completion of a board a club has, in the matches of these numbers, at least its points from finished ones, and at most three more
+-- for each of the others that it plays
 between : (club : ℕ) (games board later : List ℕ) → All IsMatch games → IsCompletion board later → Between club games board later
 unfolding board_part
 between club [] board later are done = record { low = omega arith; high = omega arith }
@@ -122,7 +124,7 @@ between club (game ∷ games) board later are done =
           record { low = rw (open_now, ended) (omega arith); high = rw (open_now, ended) (omega arith) }
     ]
 
--- in a completion of a board on which all matches are finished each match is as on the board
+-- if the matches of these numbers are all finished on a board, they are the same in each completion of the board
 all_kept : (games board later : List ℕ) → All IsMatch games → IsCompletion board later
     → list_all has_finished (map (match_at board) games) ≡ true → map (match_at later) games ≡ map (match_at board) games
 all_kept [] board later are done all = refl
@@ -143,26 +145,26 @@ same_order : (profile : Profile) (board later : List ℕ) (roster : List NamedCl
 unfolding order_of
 same_order profile board later roster e = rw e
 
--- the points of a club in those matches of the later board that are in play or finished
+-- the points of a club in those matches of a board that are in play or finished
 final_points : List ℕ → ℕ → ℕ
 final_points later club = points club (started_of later)
 
--- if the mark is plus, all is over and the club is through, or few others can reach it
+-- if the mark by these tests is Plus, `all` matches are finished and the club is `through`, or only a `few` others can reach its points
 plus_cases : (all through few many : Bool) → (if all then (if through then Plus else Minus) else (if few then Plus else (if many then Minus else Blank))) ≡ Plus
     → ((all ≡ true) × (through ≡ true)) ⊎ (few ≡ true)
 plus_cases all through few many h = search arith
 
--- if the mark is minus, all is over and the club is not through, or too many others are out of its reach
+-- if the mark by these tests is Minus, `all` matches are finished and the club is not `through`, or `many` others are out of its reach
 minus_cases : (all through few many : Bool) → (if all then (if through then Plus else Minus) else (if few then Plus else (if many then Minus else Blank))) ≡ Minus
     → ((all ≡ true) × (through ≡ false)) ⊎ (many ≡ true)
 minus_cases all through few many h = search arith
 
--- where the other club ends with at least as many points as the club, it could reach the points that the club was sure of
+-- if another club ends with at least as many points as a club, it could reach the points that this club was sure of; b is any further test
 reach_weaker : (last_club last_other sure_club reach_other : ℕ) (b : Bool) → sure_club ≤ last_club
     → last_other ≤ reach_other → (b && nat_le last_club last_other) ≡ true → (b && nat_le sure_club reach_other) ≡ true
 reach_weaker p q r s b l h e = grind (arith, nat_tests, cases_Bool b)
 
--- where the other club was sure of more points than the club could reach, it ends with more points than the club
+-- if another club was sure of more points than a club could reach, it ends with more points than this club; b is any further test
 pass_stronger : (last_club last_other reach_club sure_other : ℕ) (b : Bool) → last_club ≤ reach_club
     → sure_other ≤ last_other → (b && nat_lt reach_club sure_other) ≡ true → (b && nat_lt last_club last_other) ≡ true
 pass_stronger p q r s b l h e = grind (arith, nat_tests, cases_Bool b)
@@ -246,13 +248,15 @@ module _ (profile : Profile) (board later : List ℕ) (done : IsCompletion board
 
 -- ---- the rows, from what the calls answered
 
--- the row that the code made of each place is that of the board
+-- a row for the club at a place of a board's order, with its mark and its numbers in matches in play and finished, is the row at this
+-- place of the board's table
 pub row_of_place : (profile : Profile) (board : List ℕ) (roster : List NamedClub) (place : ℕ) (ms given : List Match) (order : List ℕ) (r : Row)
     → ms ≡ matches_of board → given ≡ ms → order ≡ order_of profile (started_of board) roster → (let slot = slice_index order (place - 1) in
     r ≡ row_with place slot (mark_by given order slot) (started given)) → r ≡ row_of profile board roster place
 unfolding row_of mark_of
 row_of_place profile board roster place ms given order r is_ms is_given is_order is = rw (is, is_given, is_ms, is_order)
 
+-- lists of four rows are equal if their rows are equal, place by place
 pub four_rows : {a b c d a' b' c' d' : Row} → a ≡ a' → b ≡ b' → c ≡ c' → d ≡ d' → ◌≡◌ {A = List Row} (a ∷ b ∷ c ∷ d ∷ []) (a' ∷ b' ∷ c' ∷ d' ∷ [])
 four_rows p q r s = cc
 
@@ -279,7 +283,7 @@ module _ (profile : Profile) (board : List ℕ) (roster : List NamedClub) where
 
 -- ---- the marks, from what the calls answered
 
--- once all matches are finished the marks of four clubs are final ones
+-- if all matches are finished, the final marks of the four clubs are their marks, in the same order
 pub final_marks : (ms : List Match) (order : List ℕ) (a b c d : Mark) → length order ≡ 4 → list_all has_finished ms ≡ true →
     a ≡ final_mark order (get_or order 0 0) → b ≡ final_mark order (get_or order 1 0) → c ≡ final_mark order (get_or order 2 0) → d
     ≡ final_mark order (get_or order 3 0) →
@@ -287,7 +291,7 @@ pub final_marks : (ms : List Match) (order : List ℕ) (a b c d : Mark) → leng
 final_marks ms (w ∷ x ∷ y ∷ z ∷ []) a b c d long all is_a is_b is_c is_d = rw (all, is_a, is_b, is_c, is_d)
 final_marks ms order a b c d long all is_a is_b is_c is_d = absurd (omega arith)
 
--- before all matches are finished the marks of four clubs are early ones
+-- if not all matches are finished, the early marks of the four clubs, which go by points, are their marks, in the same order
 pub early_marks : (ms : List Match) (order : List ℕ) (a b c d : Mark) → length order ≡ 4 → list_all has_finished ms ≡ false →
     a ≡ early_mark ms (get_or order 0 0) → b ≡ early_mark ms (get_or order 1 0) → c ≡ early_mark ms (get_or order 2 0) → d ≡ early_mark ms (get_or order 3 0) →
     ◌≡◌ {A = List Mark} (a ∷ b ∷ c ∷ d ∷ []) (map (mark_by ms order) order)

@@ -57,7 +57,7 @@ pub points-le : (club : ℕ) (ms : List Match) → points club ms ≤ 3 * played
 points-le club [] = omega arith
 points-le club (m ∷ ms) = omega (arith, played-cons club m ms, points-cons club m ms, gains-le (seen_by club m), points-le club ms)
 
--- where each match adds its part, some of the matches give no more than all
+-- if `f` adds up a part for each match, it is no more for those of the matches that pass a test than for all
 pub filter-less : (f : List Match → ℕ) (part : Match → ℕ) → ((m : Match) (ms : List Match) → f (m ∷ ms) ≡ part m + f ms)
     → (p : Match → Bool) (ms : List Match) → f (filter p ms) ≤ f ms
 filter-less f part more p [] = omega arith
@@ -78,18 +78,18 @@ pub six : (board : List ℕ) (club : ℕ) → IsSlot club → played club (match
 unfolding matches_of
 six board club slot = each_slot (λ c. played c (matches_of board) ≡ 6) refl refl refl refl club slot
 
--- at most 63 goals on either side, 63 yellow cards that stand and 31 expulsions, which are the numbers of one match of a club
+-- what a club did in one match is within the limits of a match record: 63 goals on either side, 63 yellow cards that stand, 31 expulsions
 pub record AreFew (a : Appearance) : Type 0 where
   pub scored : a.scored ≤ 63
   pub conceded : a.conceded ≤ 63
   pub yellows : a.yellows ≤ 63
   pub expulsions : a.expulsions ≤ 31
 
--- all appearances of a club in matches of valid records have at most these numbers
+-- if all appearances are within the limits of a match record, they are so with one such in front, if there is one
 few_one : (o : Option Appearance) (games : List Appearance) → ((a : Appearance) → o ≡ Some a → AreFew a) → All AreFew games → All AreFew (cons_option o games)
 few_one o games h rest = search (arith, All-cons AreFew, h, rest)
 
--- if the appearances of both clubs of a match have numbers within the limits, so has the one that is seen
+-- if both sides of a match are within the limits of a match record, so is the side of the club that plays at home or away
 seen_parts : (at_home away : Bool) (h v a : Appearance) → (if at_home then Some h else (if away then Some v else None)) ≡ Some a → AreFew h → AreFew v → AreFew a
 seen_parts at_home away h v a e few_h few_v = search arith
 
@@ -111,7 +111,7 @@ unfoldable visits : Option Appearance → ℕ
 visits None = 0
 visits (Some a) = cond a.is_away 1 0
 
--- with one appearance in front, if there is one, a club has an away match more if that is one
+-- with one appearance in front, if there is one, a club has one away match more if this appearance is away
 visits_one : (o : Option Appearance) (games : List Appearance) → length (filter (λ a. a.is_away) (cons_option o games)) ≡ visits o + length (filter (λ a. a.is_away) games)
 unfolding visits
 visits_one o games = search arith
@@ -129,6 +129,7 @@ three : (board : List ℕ) (club : ℕ) → IsSlot club → length (away_matches
 unfolding matches_of
 three board club slot = each_slot (λ c. length (away_matches c (matches_of board)) ≡ 3) refl refl refl refl club slot
 
+-- at most 63 yellow cards and 31 expulsions, which count three each, are at most 156 disciplinary points
 few_cards : (y e : ℕ) → y ≤ 63 → e ≤ 31 → y + 3 * e ≤ 156
 few_cards y e h k = omega arith
 

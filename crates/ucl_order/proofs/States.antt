@@ -21,7 +21,8 @@ filter_taken p ms m e = rw (filter-append p ms (m ∷ []), e)
 pub filter_left : (p : Match → Bool) (ms : List Match) (m : Match) → p m ≡ false → filter p (ms ++ m ∷ []) ≡ filter p ms
 filter_left p ms m e = rw (filter-append p ms (m ∷ []), e, append-nil (filter p ms))
 
--- a match that has begun is counted at the place of its state
+-- a match in play or finished that is put at the end changes only the results of matches in its own state: place 0 has those of matches in
+-- play, place 1 those of finished ones
 pub counted_more : (ms : List Match) (m : Match) (over : Bool) (new : List Results) → has_started m ≡ true → has_finished m ≡ over
     → new ≡ results_of_clubs (cond over (finished ms) (under_way ms) ++ m ∷ []) → set (counted ms) (cond over 1 0) new
     ≡ counted (ms ++ m ∷ [])
@@ -35,7 +36,7 @@ pub counted_at : (ms : List Match) (over : Bool) (none : List Results) → get_o
 counted_at ms true none = refl
 counted_at ms false none = refl
 
--- the results of a club in two lists of matches together
+-- the sum, number by number, of a club's results in two lists of matches
 abbrev together : Results → Results → Results
 together a b = record {
   played = a.played + b.played;
@@ -51,31 +52,31 @@ together a b = record {
 
 -- Those in play and those that are finished are all that have begun. --
 
--- the appearances with one in front, if there is one, are as many as that and the others together
+-- the number of appearances, with one in front if there is one, is 1 or 0 for it plus the number of the others
 length_one : (o : Option Appearance) (games : List Appearance) → length (cons_option o games) ≡ length (cons_option o []) + length games
 length_one None games = omega arith
 length_one (Some a) games = omega arith
 
--- a sum over the appearances with one in front, if there is one, is the sum over that and the sum over the others
+-- a sum over appearances with one in front, if there is one, is its part plus the sum over the others
 sum_one : (f : Appearance → ℕ) (o : Option Appearance) (games : List Appearance) → sum_by f (cons_option o games)
     ≡ sum_by f (cons_option o []) + sum_by f games
 sum_one f None games = omega arith
 sum_one f (Some a) games = omega (arith, sum_by-cons f a games, sum_by-cons f a [])
 
--- a sum over appearances, the first of them only if it is away, is its part and the sum over the others
+-- a sum over appearances, with one in front only if `away`, is its part, 0 if it is left out, plus the sum over the others
 away_at : (away : Bool) (f : Appearance → ℕ) (a : Appearance) (games : List Appearance) → sum_by f (cond away (a ∷ games) games)
     ≡ sum_by f (cond away (a ∷ []) []) + sum_by f games
 away_at true f a games = sum_one f (Some a) games
 away_at false f a games = omega arith
 
--- a sum over away appearances with one in front, if there is one, is the sum over that if away and the sum over the others
+-- a sum over away appearances, with one in front if there is one and it is away, is its part plus the sum over the others
 away_one : (f : Appearance → ℕ) (o : Option Appearance) (games : List Appearance) →
     sum_by f (filter (λ a. a.is_away) (cons_option o games))
     ≡ sum_by f (filter (λ a. a.is_away) (cons_option o [])) + sum_by f (filter (λ a. a.is_away) games)
 away_one f None games = omega arith
 away_one f (Some a) games = away_at a.is_away f a (filter (λ a. a.is_away) games)
 
--- the totals of the appearances with one in front, if there is one, are those of that and those of the others together
+-- the totals of appearances with one in front, if there is one, are its own totals plus those of the others, number by number
 totals_one : (o : Option Appearance) (games : List Appearance) → totals (cons_option o games)
     ≡ together (totals (cons_option o [])) (totals games)
 unfolding totals
@@ -91,7 +92,8 @@ totals_one o games = rw (
   away_one (λ x. cond (is_won x) 1 0) o games,
 )
 
--- one match in front, at the tests of its state
+-- p and q are a club's results in matches in play and in finished ones: to add x, for a match that has begun, to both together is to add
+-- it to p, if the match is in play, or to q, if it is finished
 part_one : (x p q : Results) (begun over : Bool) → (over ≡ true → begun ≡ true)
     → cond begun (together x (together p q)) (together p q)
     ≡ together (cond (begun && not over) (together x p) p) (cond over (together x q) q)
@@ -100,7 +102,7 @@ part_one x p q true false h = search arith
 part_one x p q false true h = absurd (true≢false (sym (h refl)))
 part_one x p q false false h = refl
 
--- with one match in front, if it is chosen, the results of a club in the chosen matches have those of this one added
+-- with one match in front, if it passes a test, a club's results in the matches that pass have those of this match added
 in_front : (p : Match → Bool) (club : ℕ) (m : Match) (ms : List Match) → results_of club (filter p (m ∷ ms))
     ≡ cond (p m) (together (totals (cons_option (seen_by club m) [])) (results_of club (filter p ms))) (results_of club (filter p ms))
 in_front p club m ms = elim (cases_Bool (p m)) [
@@ -108,7 +110,7 @@ in_front p club m ms = elim (cases_Bool (p m)) [
   | inr fails ↦ rw fails refl
 ]
 
--- results that are equal in pairs are equal together
+-- sums of equal results are equal
 together_same : {a b c d : Results} → a ≡ b → c ≡ d → together a c ≡ together b d
 together_same e f = rw (e, f)
 

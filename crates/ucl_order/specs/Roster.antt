@@ -1,4 +1,4 @@
--- The clubs of a group, and which clubs a roster takes in. A coefficient is UEFA's rating of a club, in whole thousandths.
+-- The clubs of a group, and which clubs a roster takes in.
 use Rattle.std.specs.Prelude.{◌≡◌, ℕ, ◌+◌, ◌-◌, ◌&&◌, nat_le, Bool, true, if◌then◌else◌, List, [], ◌∷◌, All, length, map, slice_index_or, Option, Some, None}
 use Rattle.std.specs.List.{list_all}
 use Rattle.ucl_order.specs.declared.roster.Club.{Club}
@@ -30,24 +30,24 @@ is_printed b = nat_le 0x20 b && nat_le b 0x7e
 abbrev pub is_name : List ℕ → Bool
 is_name name = nat_le 1 (length name) && nat_le (length name) 20 && list_all is_printed name
 
--- a roster takes the club in: it has 1 to 20 bytes of printed ASCII as its name, and a coefficient of at most 999,999
+-- the club is valid as one of a roster: its name has 1 to 20 bytes of printed ASCII, and its coefficient is at most 999,999
 unfoldable pub is_club : NamedClub → Bool
 is_club club = is_name club.name && nat_le club.coefficient 999999
 
--- the least slot whose club no roster takes in, or None if all can be taken in; the first club of the list has this slot
+-- the slot of the first club of the list that is not valid, or None if all are valid; the slots of the list count up from the one given
 unfoldable pub bad_slot_from : ℕ → List NamedClub → Option ℕ
 bad_slot_from slot [] = None
 bad_slot_from slot (club ∷ clubs) = if is_club club then bad_slot_from (slot + 1) clubs else Some slot
 
--- the least slot, counted from 1, whose club no roster takes in; None if all can be taken in
+-- the slot, counted from 1, of the first club of the list that is not valid, by its name or its coefficient; None if all are valid
 abbrev pub bad_slot : List NamedClub → Option ℕ
 bad_slot clubs = bad_slot_from 1 clubs
 
--- a roster takes the club in, as a proposition
+-- the club is valid, as a proposition: its name has 1 to 20 bytes of printed ASCII, and its coefficient is at most 999,999
 abbrev pub IsClub : NamedClub → Type 0
 IsClub club = is_club club ≡ true
 
--- the list is that of a roster: four clubs that a roster takes in, by slot
+-- the list is that of a roster: four clubs, by slot, each with a valid name and a valid coefficient
 pub record IsRoster (clubs : List NamedClub) : Type 0 where
   pub four : length clubs ≡ 4
   pub each : All IsClub clubs

@@ -36,7 +36,7 @@ struct PointBounds {
 }
 
 impl PointBounds {
-    /// Returns the bounds of the clubs' points, from what they have done in finished matches. Each club plays six, and the others are left.
+    /// Returns the bounds of the clubs' points, from their results in finished matches: each club plays six, and the rest are left.
     #[tactic(auto, unfolding(crate::specs::Results::totals))]
     fn of(ended: &[Results; 4]) -> PointBounds
         requires { All FitsFields ended.now }

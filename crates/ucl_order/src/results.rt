@@ -86,8 +86,8 @@ impl Results {
         }
     }
 
-    /// Returns what each club has done in the matches in play and finished whose two clubs have the same key: those among the clubs that
-    /// are tied with it.
+    /// Returns the results of each club, by slot, in the matches in play and finished whose two clubs have the same key. Place i of `keys`
+    /// is the key of slot i + 1.
     pub(crate) fn of_level(keys: &[u128; 4], board: &Board) -> [Results; 4]
         ensures value { result ≡ tied_results (started_of board.now) keys.now }
         ensures fits { All FitsFields result }
@@ -101,8 +101,8 @@ impl Results {
         results
     }
 
-    /// Adds one match to the results of its clubs: to the first four if it is in play, to the others if it is finished. The place is
-    /// worked out, with no jump: whether the next match that has begun is finished can't be foreseen.
+    /// Adds one match to the results of its clubs: to `states[0]` if it is in play, to `states[1]` if it is finished, and to neither if it
+    /// is scheduled. The index is computed without a branch, which would be unpredictable.
     fn add_counted(states: &mut [[Results; 4]; 2], game: &Match)
         requires pairing { IsPairing game.now }
         requires few { All (All (IsWithin 11)) states.old }

@@ -1,5 +1,4 @@
-//! Rosters: the four clubs of a group, in slots 1 to 4. A coefficient is UEFA's rating of a club, in whole thousandths. A lent name is
-//! borrowed; a member is a club as a roster keeps it, with a copy of the name.
+//! Rosters: the four clubs of a group. A lent name is borrowed; a member is a club as a roster keeps it, with a copy of the name.
 
 ghost use Rattle.std.specs.Prelude.{◌≡◌, ◌-◌, ◌≤◌, None, Some, true, false, IfOk, IfErr, OnOk, length, map, set};
 ghost use Rattle.std.specs.List.{list_all};
@@ -125,7 +124,7 @@ fn member_with(slot: u8, name: &[u8], coefficient: u32) -> Result<Member, BadRos
     })
 }
 
-/// Creates the member of a roster for a club that owns its name. [`BadRoster`] with the slot, if no roster takes the club in.
+/// Creates the member of a roster for a club that owns its name. Fails with the slot, if the name or the coefficient is not allowed.
 fn member_of(slot: u8, club: &Club) -> Result<Member, BadRoster>
     ensures taken { IfOk result (λ m. IsClub (club_seen club.now)
         × (member_seen m ≡ club_seen club.now)) }
@@ -135,7 +134,7 @@ fn member_of(slot: u8, club: &Club) -> Result<Member, BadRoster>
     member_with(slot, &club.name, club.coefficient)
 }
 
-/// Creates the member of a roster for a club with a borrowed name. [`BadRoster`] with the slot, if no roster takes the club in.
+/// Creates the member of a roster for a club with a borrowed name. Fails with the slot, if the name or the coefficient is not allowed.
 fn member_lent(slot: u8, club: &LentClub<'_>) -> Result<Member, BadRoster>
     ensures taken { IfOk result (λ m. IsClub (club_lent club.now)
         × (member_seen m ≡ club_lent club.now)) }
@@ -194,7 +193,8 @@ impl Roster {
     ///
     /// # Errors
     ///
-    /// [`BadRoster`] with the slot, if no roster takes the club in, as for [`new`](Roster::new). Then the roster stays as it was.
+    /// [`BadRoster`] with the slot, if the name is not 1 to 20 bytes of printed ASCII or the coefficient is over 999,999. Then the roster
+    /// stays as it was.
     pub fn put(&mut self, slot: u8, club: &LentClub<'_>) -> Result<(), BadRoster>
         requires { IsSlot slot }
         ensures taken { OnOk result ((self.new ≡ set self.old (slot - 1) (club_lent club.now))

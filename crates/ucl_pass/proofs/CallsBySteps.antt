@@ -97,7 +97,7 @@ pub record Tried (GoesOn : View → Type 0) (v w : View) : Type 0 where
   pub lost : ℕ
   pub tries : LostTries GoesOn lost v w
 
--- before the first try none was lost
+-- from a view to itself a pass lost no try, a load and an exchange that was missed
 pub tried_none : (GoesOn : View → Type 0) (v : View) → IsSome v.share → Tried GoesOn v v
 tried_none GoesOn v share = record {
   looked = record { stays = stays_none v; shown = refl; acts = le_refl (count_of v); share = share };
@@ -105,7 +105,7 @@ tried_none GoesOn v share = record {
   tries = refl;
 }
 
--- the reply that the rules give to this event on any board of these words
+-- the reply is what the rules answer to this event after any legal history whose match words are the first twelve of x
 abbrev Replies : EventCall → List ℕ → Result Accepted Refusal → Type 0
 Replies call x reply = (history : List Entry) → IsLegal history → board_of history ≡ take 12 x → reply ≡ sequential_reply history call
 
@@ -117,7 +117,7 @@ module _ (Stores : View → List ℕ → List ℕ → View → Type 0) (v w : Vi
   missed : Exchanges Stores v x next r w → is_ok r ≡ false → (y : List ℕ) × (y ≢ x) × LooksOnly v y y w
   missed m is = search (arith, true≢false)
 
--- an enlistment that was won gave its pass the number after that of the words
+-- if the exchange of an enlistment answers Ok, its pass has the number n + 1, where n is how many reporters the words x had
 pub reporter_number : (v w : View) (x next : List ℕ) (r : Result (List ℕ) (List ℕ)) → Exchanges StoresReporter v x next r w → is_ok r ≡ true → number_of w.own ≡ slice_index x 12 + 1
 reporter_number v w x next r m ok =
     let s = won StoresReporter v w x next r m ok in (facts.enlisted words_after IsLegalStep s.seat (slice_index x 12) v w s.steps (λ log is legal. legal)).number
@@ -149,7 +149,7 @@ module _ (w u : View) (x : List ℕ) (looked : LooksOnly w x x u) where
   pub number_left : slice_index x 12 < 255 → HasNumberLeft u
   number_left room = subst (λ (n : ℕ). n < 255) enlisted_seen room
 
--- the last load of a call, after the tries that were lost
+-- if a pass lost tries from v to w, each a load and an exchange that was missed, and then from w to u loaded x, the call ends with that load
 at_last : (GoesOn : View → Type 0) (v w u : View) (x : List ℕ) → Tried GoesOn v w → LooksOnly w x x u → LoadsAtLast GoesOn v x u
 at_last GoesOn v w u x tried looked = record { lost = tried.lost; between = w; tries = tried.tries; loads = looked }
 
@@ -254,7 +254,8 @@ module _ (board same : TableId) (own : same ≡ board) (v w u : View) (x : List 
         occurs = (stored.seat, stored.steps.occurs);
       }
 
--- words whose first twelve are those of the next board, and the last the number of the enlisted, are the words after the entry
+-- if e may follow each legal history whose match words are those of x, `board` are then the match words, and `next` is `board` and the
+-- number of reporters of x, then `next` are the words after e (`IsNextBoard`)
 pub next_words : (x board next : List ℕ) (e : Entry)
     → ((history : List Entry) → IsLegal history → board_of history ≡ take 12 x → (board ≡ board_of (followed_by history e)) × IsLegal (followed_by history e))
     → next ≡ board ++ slice_index x 12 ∷ [] → IsNextBoard e x next
@@ -302,7 +303,7 @@ module _ (v w : View) (x : List ℕ) (reading : Reading) (shows : LooksAndShows 
     occurs = (shows.seat, shows.steps.occurs);
   }
 
--- a pass k took in a note of the pass a and then loaded the words: the two have met as promised
+-- if a pass k took in a note of a pass a and then loaded the words, and a is as it was (b), all that a meeting promises holds
 pub was_met : (a b k m : CellPass) (x : List ℕ) → b ≡ a → m.board ≡ k.board → IsSound (cell_pass_view a.view) → LooksOnly (told_pass k.view (note_pass a.view)) x x m.view → CellMet a b k m
 was_met a b k m x same own sound_first looked =
     let v = k.view in
@@ -320,7 +321,7 @@ was_met a b k m x same own sound_first looked =
       occurs = (looked.seat, looked.steps.occurs);
     }
 
--- a split makes the passes that a cell board promises
+-- if m is what a split leaves of a pass k, and n the pass that it splits off, all that a split of a cell board promises holds
 pub was_split : (k m n : CellPass) → IsSound (cell_pass_view k.view) → m.board ≡ k.board → n.board ≡ k.board → m.view ≡ left_pass k.view
     → n.view ≡ second_pass k.view → CellSplit k m n
 was_split k m n sound own other left given = record {

@@ -13,7 +13,7 @@ use Rattle.ucl_live_board.proofs.InvariantIsKept.{takes_step, words_stay, words_
 use Rattle.ucl_live_board.proofs.InvariantIsKept.{opens_keep}
 use Rattle.ucl_pass.specs.CellInvariants.{CellOccurs}
 
--- of the thirteen words the first twelve are the board, and the last says how many reporters are enlisted
+-- the first twelve of the thirteen words of a cell board are its match words
 pub match_words : (h : List Entry) (n : ℕ) → take 12 (words_after h n) ≡ board_of h
 unfolding board_of
 match_words h n = refl

@@ -1,6 +1,5 @@
--- The steps of each call on a cell board, one after another. A step is one load of all words, or one compare and exchange of them; CellSteps
--- says what each kind of step does. A pass is a thread's permission on the board: `before` is what contracts know of it before the call, and
--- `after` afterwards.
+-- The steps of each call on a cell board, one after another; CellSteps says what each kind of step does. `before` is what contracts know of
+-- the pass before the call, and `after` afterwards.
 use Rattle.std.specs.Prelude.{◌≡◌, ◌≢◌, ◌<◌, ℕ, zero, suc, List, Result, IsOk, MatchResult}
 use Rattle.ucl_word.specs.declared.event.EventCall.{EventCall}
 use Rattle.ucl_word.specs.declared.event.Accepted.{Accepted}

@@ -1,7 +1,5 @@
--- The thirteen words of a cell board, a board that threads share as one cell, which is loaded and exchanged as a whole; its invariant; and
--- what contracts read off the view of a pass, that is, of what they know of a thread's permission on the board. A state is the words and the
--- views of all passes at one moment. The log has all steps of
--- all passes; its history is the accepted events. A reading is a load that shows the version, the length of the history.
+-- The thirteen words of a cell board, its invariant, and what contracts read off the view of a pass. A state is the words and the views of
+-- all passes at one moment.
 use Rattle.std.specs.Prelude.{◌≡◌, ℕ, true, List, [], ◌∷◌, ◌++◌}
 use Rattle.std.specs.List.{fold}
 use Rattle.ucl_board.specs.declared.entry.Entry.{Entry}

@@ -1,7 +1,6 @@
 -- What each public call of a cell board promises: one record for each, with what every shared board says (`says`), how many steps the call
--- takes (`acts`), and that its pass has then seen the whole history of accepted events (`up_to_date`). A pass is a thread's permission (its
--- share a fraction of it): `old` is what contracts know of it before the call, `new` afterwards. A step is one load or exchange of all
--- words. By `occurs`, some state that satisfies the invariant of the board has the pass as it is then.
+-- takes (`acts`), and that its pass has then seen the whole history (`up_to_date`). `old` is what contracts know of the pass before, `new`
+-- after. By `occurs` some state that satisfies the invariant has the pass as it is then.
 use Rattle.std.specs.Prelude.{◌≡◌, ℕ, ◌+◌, ◌<◌, List, length, Result}
 use Rattle.atomic_table.specs.Seated.{TableId}
 use Rattle.atomic_table.specs.declared.shared.Seat.{Seat}

@@ -1,7 +1,5 @@
--- What each kind of step on a cell board, a board that threads share as one cell, says of the pass that takes it. A pass is a thread's
--- permission on the board; its view is what contracts know of it: a prefix of the log of all steps, and its own. A step is one load or one
--- compare and exchange: `before` and `after` are the pass, `found` and `left` all thirteen words, before and after it. An entry is an
--- accepted event; the history of a log is its entries.
+-- What each kind of step on a cell board says of the pass that takes it: `before` and `after` are the pass, `found` and `left` all thirteen
+-- words, before and after it.
 use Rattle.std.specs.Prelude.{◌≡◌, ◌≢◌, ◌⊎◌, ℕ, ◌+◌, true, false, List, [], ◌∷◌, Option, Some, None, slice_index, slice_set, Result, MatchResult}
 use Rattle.ucl_word.specs.declared.event.EventCall.{EventCall}
 use Rattle.ucl_word.specs.Counts.{GainsOne}
@@ -13,7 +11,7 @@ use Rattle.ucl_live_board.specs.Steps.{BoardStep}
 use Rattle.ucl_live_board.specs.Views.{Takes}
 use Rattle.ucl_pass.specs.CellInvariants.{words_after}
 
--- If `current` are the words after a legal history, the entry may follow it, and then `next` are the words, with as many reporters.
+-- If `current` are the words after a legal history, the entry may follow it, and `next` are then the words; the number of reporters stays.
 abbrev pub IsNextBoard : Entry → List ℕ → List ℕ → Type 0
 IsNextBoard entry current next = (enlisted : ℕ) → GainsOne IsLegal (λ history. words_after history enlisted) entry current next
 

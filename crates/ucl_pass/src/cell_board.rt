@@ -1,6 +1,5 @@
-//! A board that threads share, in one cell of thirteen words that is loaded and exchanged as a whole. A pass is a thread's permission on
-//! the board, a reader's or a reporter's; its seat is its identity there, by which it takes steps if it may (`acts`), and `cell_view seat`
-//! what contracts know of it. A step is one load or one compare and exchange. `K: Asking` picks its event, in proofs alone.
+//! A board that threads share, in one cell of thirteen words that is loaded and exchanged as a whole. A pass takes steps by its seat, if it
+//! may (`acts`); `cell_view seat` is what contracts know of it. `K: Asking` picks the event of a step, in proofs alone.
 
 ghost use Rattle.std.specs.Prelude.{◌≡◌, ◌<◌, ◌++◌, ◌∷◌, [], take, length, slice_index, IfOk, IsSome, MatchResult};
 ghost use Rattle.atomic_table.specs.Seated.{TableId};

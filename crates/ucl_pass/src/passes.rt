@@ -1,6 +1,4 @@
-//! The passes of a cell board, which threads share as one cell. A pass is a thread's permission on the board; it cannot be copied, and acts
-//! by its seat, its identity at the cell. A split makes a second reader's pass, and an enlistment makes a reader's pass a reporter's. What
-//! contracts know of a pass, its view (a prefix of the log of all steps, its own steps, its share of the board), exists only in proofs.
+//! The passes of a cell board. A pass cannot be copied, and acts by its seat. Its view exists only in proofs.
 
 ghost use Rattle.std.specs.Prelude.{◌≡◌, length};
 ghost use Rattle.ucl_live_board.specs.Passes.{IsSound};

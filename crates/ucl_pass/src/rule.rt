@@ -1,6 +1,5 @@
-//! The invariant of the cell of thirteen words that threads share, and the kinds of steps on it, by which contracts tell what a step does.
-//! A kind is a struct without fields; `K: Asking` says, only in proofs, for which event a step is. A pass is a thread's permission (its share
-//! a fraction of it), its seat the identity by which it takes steps. A note, a pass that can take none, tells what another knows.
+//! The invariant of a cell board, and the kinds of steps on it, by which contracts tell what a step does. A kind is a struct without
+//! fields; `K: Asking` says, only in proofs, for which event a step is.
 
 ghost use Rattle.ucl_board.specs.Log.{IsLegalStep};
 ghost use Rattle.ucl_live_board.specs.Views.{new_pass, first_pass, left_pass, second_pass, note_pass, told_pass};

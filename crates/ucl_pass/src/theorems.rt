@@ -1,5 +1,4 @@
-//! Theorems on every cell board, a board that threads share in one cell. The functions do nothing: they are there for their contracts. A step
-//! is one load or one compare and exchange of the cell; the log has all steps. A pass is a thread's permission on the board.
+//! Theorems on every cell board. The functions do nothing: each is there for its contract.
 
 ghost use Rattle.ucl_board.specs.Log.{IsLegalRule, IsLegalStep};
 ghost use Rattle.ucl_pass.specs.CellSteps.{LogsOneStep};

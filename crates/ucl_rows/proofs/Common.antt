@@ -6,13 +6,10 @@ pub use Rattle.std.proofs.Common.{Bool, List, None, Option, Some, [], ap, append
 pub use Rattle.std.proofs.Common.{refl, set, subst, suc, sym, take, true, zero, ℕ, ◌%◌, ◌*◌, ◌++◌, ◌+◌, ◌-◌, ◌/◌, ◌<◌, ◌==◌, ◌^◌, ◌∙◌, ◌∷◌, ◌≡◌, ◌≤◌, ◌⊎◌}
 pub use Rattle.std.proofs.Math.Nat.{pow-suc}
 pub use Rattle.std.proofs.lemmas.Bool.{and_parts, cases_Bool}
-pub use Rattle.std.proofs.lemmas.Bool.Decides.{nat_tests}
 pub use Rattle.std.proofs.lemmas.List.{drop_more, take-append-drop, take_all, take_more}
-pub use Rattle.std.proofs.lemmas.Str.{IsUtf8-from_ascii}
 pub use Rattle.std.specs.Fmt.{digit_glyph}
 pub use Rattle.std.specs.Io.KnownBytes.{Appends}
 pub use Rattle.std.specs.List.{list_all}
-pub use Rattle.std.specs.Prelude.{nat_le}
 pub use Rattle.ucl_io.proofs.Cuts.{rest_of}
 pub use Rattle.ucl_order.specs.Roster.{is_printed}
 pub use Rattle.ucl_rows.specs.BadRows.{shown_text}

@@ -7,16 +7,16 @@ use Rattle.ucl_screen.specs.PlainRows.{BeginsWithRow, fields_of_four}
 use Rattle.ucl_screen.proofs.PlainRows.{no_rows_fed}
 use Rattle.ucl_rows.specs.Rows.{Nothing, Said, said_by_text}
 
--- a text that adds no row, whatever comes behind it, says nothing as a line
+-- if a text adds no row to any text that follows it, then as a line, with a line feed, it says nothing: it has no row
 pub says_nothing : (text : List ℕ) → ((tail : List ℕ) → records default_config (text ++ tail) ≡ records default_config tail) → Nothing ≡ of_rows (records default_config (text ++ 10 ∷ []))
 says_nothing text none = sym (ap of_rows (none (10 ∷ []) ∙ no_rows_fed))
 
--- a text that begins with a row of four fields, and adds no other row, says just this row as a line
+-- if a text begins with a row of four fields, and its rest adds no row to any text that follows it, then as a line it says just this row
 pub says_four : (text rest : List ℕ) (f : FourFields) → BeginsWithRow text (fields_of_four f) rest → ((tail : List ℕ) → records default_config (rest ++ tail) ≡ records default_config tail)
     → Row f ≡ of_rows (records default_config (text ++ 10 ∷ []))
 says_four text rest f b none = sym (ap of_rows (b.rows (10 ∷ []) refl ∙ ap (λ (rows : List Fields). fields_of_four f ∷ rows) (none (10 ∷ []) ∙ no_rows_fed)))
 
--- a line that is not the first, and not too long
+-- a line other than line 1, if it is not too long, says what its rows say, as `csv` reads them
 pub says_later : (row : ℕ) (line : List ℕ) (said : Said) → 1 < row → fits (line ++ 10 ∷ []) ≡ true → said ≡ of_rows (records default_config (line ++ 10 ∷ [])) → said_on row line ≡ said
 unfolding said_by_text
 says_later row line said later short is = rw (short, ne_eqb row 1 (λ e. omega arith)) (sym is)

@@ -2,7 +2,7 @@
 use Rattle.ucl_rows.proofs.Common.{List, append_assoc, drop, get_or, length, sym, word_line, ℕ, ◌++◌, ◌+◌, ◌<◌, ◌∙◌, ◌∷◌, ◌≡◌, ◌≤◌}
 use Rattle.std.proofs.Common.{add-one, drop-cons}
 use Rattle.std.proofs.lemmas.List.{append-nil}
-use Rattle.ucl_screen.proofs.EventsInTurn.{past}
+use Rattle.std.proofs.lemmas.List.{drop_all}
 use Rattle.ucl_rows.specs.Lines.{word_lines}
 
 -- once one word more is written, what was written and what is still to be written are the whole text of word lines
@@ -16,4 +16,4 @@ words_step index i words out new whole h so_far line =
 -- once all words are written, what was written is the whole text of word lines
 pub words_end : (index i : ℕ) (words out whole : List ℕ) → length words ≤ i → out ++ word_lines index (drop i words) ≡ whole → out ≡ whole
 unfolding word_lines
-words_end index i words out whole h so_far = sym (append-nil out) ∙ (rw (past i words h) at so_far)
+words_end index i words out whole h so_far = sym (append-nil out) ∙ (rw (drop_all i words h) at so_far)

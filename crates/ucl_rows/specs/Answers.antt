@@ -1,5 +1,4 @@
--- The answers to single rows of an input, as text or as a line of JSON; `row` is the number of the row. A board is given as twelve words,
--- its matches packed into 64 bits each. A header names the group, the tie-break order (profile) and the edition, which rises with mends.
+-- The answers to single rows of an input, as text or as a line of JSON; `row` is the number of the row.
 use Rattle.std.specs.Prelude.{ℕ, List, ◌++◌, codes, decimal, string_bytes, Result}
 use Rattle.ucl_word.specs.declared.event.Accepted.{Accepted}
 use Rattle.ucl_word.specs.declared.refusal.Refusal.{Refusal}

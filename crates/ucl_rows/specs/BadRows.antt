@@ -1,5 +1,4 @@
--- What an answer in JSON reports of a bad row, which is neither an event nor a request: its first bad field, and the start of its text.
--- A row of an event has four fields: reporter, match, expected event number and event word.
+-- What an answer in JSON reports of a bad row: its first bad field, and the start of its text.
 use Rattle.std.specs.Prelude.{ℕ, if◌then◌else◌, List, [], ◌∷◌, take, codes, is_some}
 use Rattle.ucl_order.specs.Roster.{is_printed}
 use Rattle.ucl_screen.specs.Events.{expected_in, match_in, reporter_in}
@@ -15,7 +14,7 @@ field_name Match = codes "match"
 field_name Expected = codes "expected"
 field_name Event = codes "event"
 
--- the first of the four fields of a bad row that no row of an event can have; if the first three are good, it is the event word
+-- the first of the four fields of a bad row that does not parse as a field of an event; the event word, if the first three parse
 abbrev pub bad_field : FourFields → BadField
 bad_field row =
     if is_some (reporter_in row.first) then (

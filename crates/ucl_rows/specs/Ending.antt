@@ -1,5 +1,5 @@
--- How a program ends: what it wrote, and its exit status. It prints faults on its error sink, which stands for standard error; a `RunFault`
--- is why a run failed. `old` and `new` are the bytes that a sink has taken before and after, None if not known.
+-- How a program ends: what it wrote, and its exit status. `old` and `new` are the bytes that its error sink has taken before and after,
+-- None if not known.
 use Rattle.std.specs.Prelude.{◌≡◌, ℕ, ⊤, Bool, List, Option, Result, Ok, Err, IfErr, OnOk, string_bytes}
 use Rattle.std.specs.Io.KnownBytes.{Appends}
 use Rattle.ucl_io.specs.declared.logged_io.LoggedIo.{LoggedIo}
@@ -19,11 +19,11 @@ pub record Ended : Type 0 where
   pub old : Option (List ℕ)
   pub new : Option (List ℕ)
 
--- how a program ended with this status, if its error sink was `old` before and `new` after, by the functions for failure and bytes taken
+-- how a program ended with status `code`, if its error sink was `old` before and `new` after; `failed` and `taken` tell a sink's state
 abbrev pub ended_with : {E : Type 0} → (E → Bool) → (E → Option (List ℕ)) → ℕ → E → E → Ended
 ended_with failed taken code old new = record { code = code; failed = failed new; old = taken old; new = taken new }
 
--- by the result of its run a program ended with status 0 and nothing printed, or with the status of the fault and the fault's line printed
+-- if its run succeeded, a program ended with status 0 and printed nothing; if it failed, with the fault's status and its line printed
 abbrev pub Ends : Result ⊤ RunFault → Ended → Type 0
 Ends (Ok done) e = (e.code ≡ 0) × (e.new ≡ e.old)
 Ends (Err fault) e = (e.code ≡ status fault) × Prints e.failed e.old e.new (fault_line fault)
@@ -41,7 +41,7 @@ module _ {W : Type 0} (failed_of : W → Bool) (taken_of : W → Option (List �
   ExitsWithoutCommand (words.Refused text) before after e = (after ≡ before) × (e.code ≡ 2) × Prints e.failed e.old e.new (string_bytes text)
   ExitsWithoutCommand words.OutOfMemory before after e = (after ≡ before) × Ends (Err OutOfMemory) e
 
--- a program whose arguments ask for no command, as `fault` says, ended without reading: of its input and output only the sink may differ
+-- arguments that name no command (`fault`: help, a refusal, or no memory) were answered, and nothing was read: only the sink may differ
 abbrev pub AnsweredAlone : {S W M : Type 0} → writes.Ghosts W → LineFault → LoggedIo S W M → LoggedIo S W M → Ended → Type 0
 AnsweredAlone sink fault before after e =
     (after ≡ record before { sink = after.sink }) × ExitsWithoutCommand sink.failed sink.taken fault before.sink after.sink e

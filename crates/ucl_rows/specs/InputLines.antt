@@ -8,6 +8,6 @@ abbrev pub last_lines : List ℕ → List (List ℕ)
 last_lines [] = []
 last_lines (b ∷ line) = (b ∷ line) ∷ []
 
--- the lines of a whole input; the bytes after its last line feed are one too, if there are any
+-- the lines of a whole input, each cut at 258 bytes, too long by then; the bytes after the last line feed, if any, are a line too
 abbrev pub lines_of : List ℕ → List (List ℕ)
 lines_of bytes = ended_lines 258 [] bytes ++ last_lines (begun_line 258 [] bytes)

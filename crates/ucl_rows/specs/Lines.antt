@@ -1,5 +1,5 @@
--- The lines that answer events, and the lines of match words, each of which is a match packed into 64 bits. ROW is the number of a row.
--- NUMBER counts the accepted events of a match, VERSION those of the board.
+-- The lines that answer events, and the lines of match words. ROW is the number of a row, NUMBER and VERSION count the accepted events of a
+-- match and of the board.
 use Rattle.std.specs.Prelude.{ℕ, ◌+◌, List, [], ◌∷◌, ◌++◌, codes, decimal, Result, Ok, Err, length}
 use Rattle.ucl_word.specs.declared.event.Accepted.{Accepted}
 use Rattle.ucl_screen.specs.Numbers.{hex_digits}

@@ -1,13 +1,12 @@
--- What a line says, as a row of its own: nothing, a row of four fields, or something else.
--- With its line feed a line is read by the rules of scripts, the inputs of `ucl_night`. So a quote that is not closed takes in the line
--- feed, which stands in no field that is good.
+-- What a line says, as a row of its own: nothing, a row of four fields, or something else. It is read with its line feed, as `csv` reads,
+-- so a quote that is not closed takes in the line feed, which stands in no field that is good.
 use Rattle.std.specs.Prelude.{ℕ, ◌-◌, ◌==◌, nat_le, if◌then◌else◌, Bool, List, [], ◌∷◌, ◌++◌, length, get_or, Option, Some, None}
 use Rattle.csv.specs.Reading.{default_config, records}
 use Rattle.ucl_screen.specs.Rows.{Fields, FourFields, four_of, four_seen, rows_of}
 use Rattle.ucl_screen.specs.declared.rows.RowFields.{RowFields}
 use Rattle.ucl_screen.specs.declared.rows.RowFields.TheVariants as seen
 
--- whether a line with its end has at most 256 bytes before it: a line feed, or a carriage return and a line feed
+-- whether a line, given with its line feed, has at most 256 bytes before its end, to which a carriage return before the feed belongs
 abbrev pub fits : List ℕ → Bool
 fits text = nat_le (length text) (if get_or text (length text - 2) 0 == 13 then 258 else 257)
 

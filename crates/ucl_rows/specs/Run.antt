@@ -11,7 +11,7 @@ use Rattle.ucl_io.specs.Output.{StoppedShort}
 use Rattle.ucl_rows.specs.declared.fault.RunFault.{RunFault}
 use Rattle.ucl_rows.specs.declared.fault.RunFault.TheVariants.{Input, WriteFailed, NotOnDuty}
 
--- if the bytes of the input are known, the text that they call for is one of which P holds
+-- if the bytes of the input are known, P holds of an output that they call for by `CallsFor`
 abbrev pub TextHas : (List ℕ → List ℕ → Type 0) → Option (List ℕ) → (List ℕ → Type 0) → Type 0
 TextHas CallsFor known P = IfSome known (λ bytes. (text : List ℕ) × CallsFor bytes text × P text)
 
@@ -64,15 +64,15 @@ abbrev pub MatchDuty : RunFault → (ℕ → Type 0) → Type 0 → Type 0
 MatchDuty (NotOnDuty row) P Q = P row
 MatchDuty _ P Q = Q
 
--- the output has failed in a text before which `before` bytes went out, and the fault has the number of all bytes that went out
+-- the output failed within `text`, after `before` earlier bytes; the fault is `WriteFailed` with the count of all bytes that went out
 abbrev pub IsStopped : ℕ → Bool → Option (List ℕ) → Option (List ℕ) → List ℕ → RunFault → Type 0
 IsStopped before failed old new text (WriteFailed written) = StoppedShort before failed old new text written
 IsStopped before failed old new text _ = ⊥
 
 -- Runs whose lines a driver hands to a handler. --
 
--- `fault` is what the fault of a driver, which hands lines to a handler, becomes: the handler's own as it is, any other by `Gives` from a
--- fault of a run
+-- `fault`, of the handler's type F, stands for a fault of the driver that hands it lines: the handler's own fault is kept, and any other
+-- is taken as a `RunFault` and converted to F by `Gives`, the relation of the conversion
 abbrev pub IsOfDriver : {F : Type 0} → (RunFault → F → Type 0) → ServeFault F → F → Type 0
 IsOfDriver Gives (driver.ReadFailed bytes) fault = Gives (Input (input.ReadFailed bytes)) fault
 IsOfDriver Gives driver.TooLong fault = Gives (Input input.TooLong) fault

@@ -1,6 +1,4 @@
-//! The answers to single rows of an input, as text or as a line of JSON; `row` is the number of the row. A board is the twelve matches of a
-//! group, a roster its four clubs; a header names the group, the tie-break order (profile), and the edition, which rises with mends.
-//! A bad row is neither an event nor a request. An event is refused as stale if its match has another event number than it expects.
+//! The answers to single rows of an input, as text or as a line of JSON; `row` is the number of the row.
 
 ghost use Rattle.std.specs.Prelude.{◌≡◌, ◌<◌, ◌≤◌, ◌-◌, ◌^◌, ◌++◌, [], IfOk, string_bytes};
 ghost use Rattle.arrayvec.specs.ArrayString.{array_string_len};

@@ -1,5 +1,4 @@
-//! What an answer in JSON reports of a bad row, which is neither an event nor a request: its first bad field, and the start of its text.
-//! A row of an event has four fields: reporter, match, expected event number and event word.
+//! What an answer in JSON reports of a bad row: its first bad field, and the start of its text.
 
 ghost use Rattle.std.specs.Prelude.{◌≡◌, ◌≤◌, length, take, true};
 ghost use Rattle.std.specs.List.{list_all};
@@ -43,7 +42,7 @@ impl BadField {
     }
 }
 
-/// Returns the first of the four fields of a bad row that no row of an event can have. If the first three are good, it is the event word.
+/// Returns the first of the four fields of a bad row that does not parse as a field of an event; the event word, if the first three parse.
 pub fn bad_field(four: &Four<'_>) -> BadField
     ensures { result ≡ bad_field (four_seen four.now) }
 {
@@ -81,7 +80,7 @@ fn shown_length(text: &[u8]) -> usize
 }
 
 /// Returns what an answer shows of the text of a bad row: the bytes before the first that is not printable ASCII, and at most 64.
-#[tactic(auto, using(crate::proofs::LiveShown::shown_utf8))]
+#[tactic(auto, using(ucl_screen::proofs::Columns::printed_utf8))]
 pub(crate) fn shown_text(text: &[u8]) -> &str
     ensures { result.now ≡ shown_text text.now }
 {

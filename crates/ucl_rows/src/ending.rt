@@ -1,5 +1,4 @@
-//! How a program ends: what it prints on the error sink, which stands for standard error, and its exit status. A run that failed has a
-//! `RunFault`, and each of these has a line of text and a status. In contracts `taken` are the bytes that a sink took, if known.
+//! How a program ends: what it prints on the error sink, which stands for standard error, and its exit status.
 
 ghost use Rattle.std.specs.Prelude.{◌≡◌, ◌++◌, codes, true, OnOk, IfErr};
 ghost use Rattle.std.specs.Io.KnownBytes.{Appends};

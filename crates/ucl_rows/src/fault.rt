@@ -1,5 +1,4 @@
-//! `RunFault`: why a run of a program fails. Each fault has a code, 10 to 31, a line for standard error and an exit status. A driver is
-//! `ucl_io::serve_lines`, which reads lines, has a handler answer them, and writes the answers.
+//! `RunFault`: why a run of a program fails. Each fault has a code, 10 to 31, a line for standard error and an exit status.
 
 ghost use Rattle.std.specs.Prelude.{◌≡◌, Some};
 ghost use Rattle.ucl_rows.specs.declared.fault.RunFault.TheVariants.{OutOfMemory, TooManyReporters, Strangers};
@@ -114,7 +113,8 @@ impl From<ucl_live_board::Strangers> for RunFault {
     }
 }
 
-/// Turns the fault of a driver into one of its handler: the handler's own fault as it is, and any other from the `RunFault` for it.
+/// Converts the fault of a driver, which hands lines to a handler, to the handler's type: the handler's own fault is kept, and any other is
+/// converted from the `RunFault` for it.
 pub fn of_driver<F: From<RunFault>>(fault: ServeFault<F>) -> F
     ensures { IsOfDriver F.from_gives fault result }
 {

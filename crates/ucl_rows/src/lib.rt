@@ -1,6 +1,5 @@
-//! What the runs over rows of the board of one group of the UEFA Champions League share: `plain_row` and `read_row` read the row on a
-//! line; an `Answer` is what a row is answered, as text or as a line of JSON; `word_lines` writes the words of a
-//! board; a `RunFault` is why a run fails, and `print_fault` writes its line and gives the exit status.
+//! What the runs over rows share: `plain_row` and `read_row` read the row on a line; an `Answer` is what a row is answered; `word_lines`
+//! writes the words of a board; a `RunFault` is why a run fails, and `print_fault` writes its line and gives the exit status.
 #![tactic(auto)]
 
 mod answer;

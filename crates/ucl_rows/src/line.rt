@@ -32,7 +32,7 @@ fn fits(line: &[u8]) -> bool
     }
 }
 
-/// Returns what a text says, given without its line feed, `None` if it has no row; or `None` if only `csv` can read one of its rows.
+/// Returns what a text, given without its line feed, says: `Some(None)` if it has no row, `None` if only `csv` can read one of its rows.
 fn plain_text(text: &[u8]) -> Option<Option<RowFields<'_>>>
     ensures { IfSome result (λ said.
         line_seen said ≡ of_rows (records default_config (text.now ++ 10 ∷ []))) }
@@ -69,7 +69,7 @@ fn unmarked(row: u64, line: &[u8]) -> &[u8]
     if row == 1 { without_mark(line) } else { line }
 }
 
-/// Returns some bytes, and then a line with its line feed.
+/// Joins `before`, a line and a line feed.
 fn fed(before: &[u8], line: &[u8]) -> ArrayVec<u8, 259>
     requires { length before.now + length line.now ≤ 258 }
     ensures { result.items ≡ (before.now ++ line.now) ++ 10 ∷ [] }

@@ -1,4 +1,4 @@
-//! Writing whole texts to a sink, which takes bytes and may fail on the way. In contracts `taken` are the bytes that it took, if known.
+//! Writing whole texts to a sink, which may fail on the way. In contracts `taken` are the bytes that it took, if known.
 
 ghost use Rattle.std.specs.Prelude.{◌≡◌, ◌+◌, ◌-◌, ◌^◌, ◌++◌, min, length, OnOk, IfOk, IfErr};
 ghost use Rattle.std.specs.Io.KnownBytes.{Appends};

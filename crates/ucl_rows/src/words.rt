@@ -1,5 +1,5 @@
-//! The word lines of a board, one for each of its twelve matches: `word,INDEX,HEX,`, in which HEX is the match word, the match packed into
-//! 64 bits. They ask for no memory.
+//! The word lines of a board, one for each of its twelve matches: `word,INDEX,HEX,`, in which HEX is the match word. They ask for no
+//! memory.
 
 ghost use Rattle.std.specs.Prelude.{◌≡◌, ◌+◌, ◌<◌, ◌≤◌, ◌++◌, [], false, length};
 ghost use Rattle.std.specs.Fmt.{digit_glyph};

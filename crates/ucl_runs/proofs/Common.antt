@@ -5,7 +5,7 @@ pub use Rattle.std.proofs.Common.{slice_get, subst, suc, sym, take, take_all, tr
 pub use Rattle.std.proofs.Common.{◌^◌, ◌∙◌, ◌∷◌, ◌≡◌, ◌≢◌, ◌≤◌, ◌⊎◌}
 pub use Rattle.std.proofs.Math.Seq.{take-append_seam, take-length}
 pub use Rattle.std.proofs.lemmas.Bool.{cases_eq, cases_lt, cases_order, cond_both, false≢true}
-pub use Rattle.std.proofs.lemmas.List.{map_push, nil_from_length, same_from_push, take-append-drop}
+pub use Rattle.std.proofs.lemmas.List.{drop_all, map_push, nil_from_length, same_from_push, take-append-drop}
 pub use Rattle.std.proofs.lemmas.List.Elements.{All-get_or, All-more, All-pop, All-push}
 pub use Rattle.std.proofs.lemmas.Option.{get_or_from_slice_get, none-some, same_Some}
 pub use Rattle.std.proofs.lemmas.Result.{err_from_is_err_and}
@@ -34,7 +34,7 @@ pub use Rattle.ucl_runs.specs.Nights.{style_of}
 pub use Rattle.ucl_runs.specs.Program.{HasLooked, IsFaultOfNight, IsOfScript, IsOutputOfNight, IsPlayed, IsRun, Streams, Task, feed_task}
 pub use Rattle.ucl_runs.specs.Program.{night_task, show_task}
 pub use Rattle.ucl_runs.specs.Show.{IsShown, Style, styled, styled_screen}
-pub use Rattle.ucl_screen.proofs.EventsInTurn.{AreEntered, entered-all, entered-one, first-event, past, version-bound}
+pub use Rattle.ucl_screen.proofs.EventsInTurn.{AreEntered, entered-all, entered-one, first-event, version-bound}
 pub use Rattle.ucl_screen.specs.Parsing.{MeansNight, MeansSheet, night_seen, sheet_seen}
 pub use Rattle.ucl_screen.specs.Screen.{screen_text}
 pub use Rattle.ucl_screen.specs.Script.{Script}

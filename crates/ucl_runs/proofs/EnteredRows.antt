@@ -38,7 +38,7 @@ module _ (s h : List Entry) (on : IsPrefix s h) where
   entered_before {a} {p} (inl r) is = absurd (false≢true (sym (reply_on a.call p r.within ∙ r.reply) ∙ is.reply))
   entered_before (inr e) is = e
 
--- an attempt is entered at a place that the history has
+-- an attempt that is entered at place p of a history is the entry there, so p is below the length of the history
 pub entered_within : {h : List Entry} {a : Attempt} {p : ℕ} → IsEnteredAt h a p → p < length h
 entered_within {h} {p = p} is = at_below h p _ is.entry
 
@@ -52,7 +52,7 @@ one_by : (b : Bool) (x : Entry) (xs : List Entry) → cond b (x ∷ xs) xs ≡ [
 one_by true x xs none = absurd cc
 one_by false x xs none = (refl, none)
 
--- a history that has no entry of a reporter
+-- if the list of the entries of reporter n in a history is empty, an entry at any place p of the history is of another reporter
 pub none_by : (n : ℕ) (h : List Entry) (p : ℕ) (e : Entry) → entries_by n h ≡ [] → slice_get h p ≡ Some e → e.reporter ≢ n
 none_by n [] p e none at is = none-some e at
 none_by n (x ∷ h) zero e none at is =
@@ -60,13 +60,13 @@ none_by n (x ∷ h) zero e none at is =
     false≢true (sym (one_by (x.reporter == n) x (entries_by n h) none).0 ∙ eq-eqb x.reporter n same)
 none_by n (x ∷ h) (suc p) e none at is = none_by n h p e (one_by (x.reporter == n) x (entries_by n h) none).1 at is
 
--- a place past the first of two histories is a place of the second
+-- an entry of `xs ++ ys` at a place past all of xs is an entry of ys
 at_rest : (xs ys : List Entry) (p : ℕ) (e : Entry) → length xs ≤ p → slice_get (xs ++ ys) p ≡ Some e → (q : ℕ) × (slice_get ys q ≡ Some e)
 at_rest [] ys p e past at = (p, at)
 at_rest (x ∷ xs) ys zero e past at = absurd (omega arith)
 at_rest (x ∷ xs) ys (suc p) e past at = at_rest xs ys p e (omega arith) at
 
--- where a longer history has no more entries of a reporter, each of them stands in the beginning
+-- if h begins with s, and has no more entries of reporter n than s, each entry of n in h stands within s
 pub stands_before : (n : ℕ) (s h : List Entry) (on : IsPrefix s h) → entries_by n h ≡ entries_by n s → {p : ℕ} {e : Entry}
     → slice_get h p ≡ Some e → e.reporter ≡ n → p < length s
 stands_before n s h on same {p} {e} at is = elim (cases_lt p (length s)) [
@@ -86,12 +86,13 @@ AllOnDuty rows = (i : ℕ) (row : NightEvent) → slice_get rows i ≡ Some row 
 pub each_on_duty : (rows : List NightEvent) → All IsOnDuty rows → AllOnDuty rows
 each_on_duty rows all i row at = subst IsOnDuty (get_or_from_slice_get rows i row row at) (All-get_or IsOnDuty rows i row (at_below rows i row at) all)
 
--- a report, accepted or refused, leaves the versions that its pass has shown
+-- a report, accepted or refused, does not change the versions that its pass has read (`shown`)
 pub report_shown : (old new : PassView) (call : EventCall) (reply : Result Accepted Refusal) → LiveReported old call reply new → new.shown ≡ old.shown
 report_shown old new call (Ok accepted) says = says.accepted.shown
 report_shown old new call (Err refusal) says = says.refused.shown
 
--- the point of a report, in what its pass has then seen: past all that it had seen; its pass has no other new entry
+-- a report by a pass, `old` and then `new`, has a linearization point in the history seen by then, past all that was seen before it; the
+-- reporter has no other new entry there
 record HasPoint (old new : PassView) (call : EventCall) : Type 0 where
   point : ℕ
   place : HasLinearizationPoint new.seen (attempted old.number call) point
@@ -99,7 +100,7 @@ record HasPoint (old new : PassView) (call : EventCall) : Type 0 where
   alone : (p : ℕ) (e : Entry) → slice_get new.seen p ≡ Some e → e.reporter ≡ old.number → length old.seen ≤ p
       → (p ≡ point) × IsEnteredAt new.seen (attempted old.number call) point
 
--- a report has a point in the history at which its reply is the sequential one
+-- a report by a sound pass has a linearization point, at which its reply is the sequential one, in the history that the pass has then seen
 point_of : (old new : PassView) (call : EventCall) (reply : Result Accepted Refusal) → IsSound old → LiveReported old call reply new → HasPoint old new call
 point_of old new call (Ok accepted) sound says =
     let a = says.accepted in
@@ -132,23 +133,23 @@ point_of old new call (Err refusal) sound says =
       alone = λ p e at is past. (let below = stands_before old.number old.seen new.seen on none_more at is in absurd (omega arith));
     }
 
--- the calls of a reporter among rows begin with that of a first row of its own
+-- if the first row is of reporter r, the calls of r begin with the call of that row
 pub own_calls : (r : ℕ) (row : NightEvent) (rows : List NightEvent) → row.reporter ≡ r → calls_of r (row ∷ rows) ≡ row.call ∷ calls_of r rows
 own_calls r row rows is = rw (eq-eqb row.reporter r is) refl
 
--- the calls of a reporter among rows pass over a first row of another reporter
+-- if the first row is of another reporter than r, the calls of r are those of the other rows
 pub other_calls : (r : ℕ) (row : NightEvent) (rows : List NightEvent) → row.reporter ≢ r → calls_of r (row ∷ rows) ≡ calls_of r rows
 other_calls r row rows other = rw (ne_eqb row.reporter r other) refl
 
--- the one of two for reporter 1, and the other one for reporter 2
+-- `one` for reporter 1, and `two` for any other, which is reporter 2
 abbrev pub of_two : {A : Type 0} → A → A → ℕ → A
 of_two one two reporter = if reporter == 1 then one else two
 
--- another value for one reporter
+-- the function f, but with the value `new` for the reporter `who`
 abbrev changed : {A : Type 0} → (ℕ → A) → ℕ → A → ℕ → A
 changed f who new reporter = if reporter == who then new else f reporter
 
--- the points of rows with one more, of the first
+-- the linearization points of rows, by index, if a row with point q is put before rows with these points
 abbrev point_more : ℕ → (ℕ → ℕ) → ℕ → ℕ
 point_more q points zero = q
 point_more q points (suc i) = points i
@@ -317,7 +318,7 @@ module _ {B R P : Type 0} (live : boards.Ghosts B R P) where
         first_placed row rows old (duty 0 row refl) reports
         (placed rows (later row rows old (duty 0 row refl) reports) (λ i x at. duty (suc i) x at) (rest row rows old (duty 0 row refl) reports))
 
--- a pass that has reported its rows has entered them, and has entered no more if it is then `end`
+-- if a new pass has reported its reporter's rows, and later, as `end`, has entered no more, `end` has entered these rows and no others
 pub entered_all : {B R P : Type 0} (live : boards.Ghosts B R P) (board : B) (rows : List NightEvent) (reporter : ℕ) {before : P} (pass : P) (end : PassView)
     → live.is_reporter board pass → IsFreshOn live board before → HasReported live (calls_of reporter rows) before pass
     → Continues (live.reporter pass) end → end.mine ≡ (live.reporter pass).mine → HasEnteredAll live board rows reporter end
@@ -447,7 +448,8 @@ module _ {B R P : Type 0} (live : boards.Ghosts B R P) (k l m n : P) (rows : Lis
     one_row = λ p below. (let r = some_row p below in record { index = r.0; is = r.1; alone = λ other o. alone p r.0 other r.1 o });
   }
 
--- what settling answered for the two passes, which are c and d afterwards: the entries that it read are a merge
+-- if the new passes k and l of two reporters, then m and n, have reported their rows, and settling, which leaves c and d, has found only
+-- their entries up to this version, these entries are an interleaving of the rows
 pub merged_by_settlers : {B R P : Type 0} (live : boards.Ghosts B R P) {k l m n : P} {c d : PassView} {rows : List NightEvent} {version : ℕ}
     → HasReported live (calls_of 1 rows) k m → HasReported live (calls_of 2 rows) l n → IsFresh (live.reporter k) → IsFresh (live.reporter l)
     → Continues (live.reporter m) c → Continues (live.reporter n) d → (live.reporter m).number ≢ (live.reporter n).number → AllOnDuty rows

@@ -162,16 +162,17 @@ module _ (number : ℕ → ℕ) (rows : List NightEvent) (h : List Entry) (merge
       } in
       simp take-length at (all_agree (length rows) (omega arith) (length h) (omega arith) fits)
 
--- boards of histories in which each match has the same entries
+-- two histories in which each match has the same entries come to the same board
 same_board : (x y : List Entry) → ((g : ℕ) → entries_of g x ≡ entries_of g y) → board_of x ≡ board_of y
 unfolding board_of
 same_board x y same = λ i. map (λ game. word_of (counted_match (same game i))) match_numbers
 
--- all merges of the rows of a script, where each match has one reporter, have one board
+-- if each match has one reporter, all interleavings of the rows of a script come to the same board
 pub all_merges_agree : ScheduleDoesNotMatter
 all_merges_agree number rows h merge one = same_board h (accepted_of (map (attempt_by number) rows)) (λ g. entries_agree number rows h merge one g)
 
--- what a reading of a merge shows is the night's board
+-- if a history up to a version is an interleaving of the rows, and each match has one reporter, a reading of this version is the board
+-- after the rows in script order
 pub night_board_read : (number : ℕ → ℕ) (rows : List NightEvent) (seen : List Entry) (version : ℕ) (reading : Reading) → IsInterleaving number rows (take version seen) →
     EachMatchHasOneReporter rows
     → reading ≡ snapshot_at seen version → reading.board ≡ night_board number rows

@@ -10,17 +10,17 @@ use Rattle.ucl_screen.specs.Script.{club_at, events_from, first_event_row, if_go
 use Rattle.ucl_screen.specs.declared.fault.InputFault.{InputFault}
 use Rattle.ucl_json.proofs.ScreenLength.{screen_short}
 
--- four clubs that were read, of which none is bad, are a roster
+-- if the check `if_good` of four clubs, by their first bad slot if any, answers clubs, these are a roster
 good-clubs : (clubs four : List NamedClub) (slot : Option ℕ) → length four ≡ 4 → bad_slot four ≡ slot → if_good four slot ≡ Ok clubs → IsRoster clubs
 good-clubs clubs four None long none is = let same : four ≡ clubs = cc in subst IsRoster same (good_four four long none)
 good-clubs clubs four (Some slot) long bad is = cc is
 
--- a result that came of two steps came of a first one that was Ok
+-- if `r >>= f` is Ok b, then f maps some value to Ok b
 step : {A B : Type 0} (r : Result A InputFault) (f : A → Result B InputFault) (b : B) → (r >>= f) ≡ Ok b → (x : A) × (f x ≡ Ok b)
 step (Ok x) f b is = (x, is)
 step (Err fault) f b is = cc is
 
--- a result that came of two steps came of a first one that was Ok, and is what the second makes of its value
+-- if `r >>= f` is Ok b, then r is Ok x for some x, and f maps x to Ok b
 step-of : {A B : Type 0} (r : Result A InputFault) (f : A → Result B InputFault) (b : B) → (r >>= f) ≡ Ok b → (x : A) × (r ≡ Ok x) × (f x ≡ Ok b)
 step-of (Ok x) f b is = (x, refl, is)
 step-of (Err fault) f b is = cc is
@@ -50,7 +50,7 @@ script-roster bytes night is =
     let events = step (events_from first_event_row roster.0.1) _ night roster.2 in
     subst (λ (n : Script). IsRoster n.clubs) (same-ok (record { clubs = roster.0.0; events = events.0 }) night events.1) (roster-read (rows_of text.0) roster.0 roster.1)
 
--- a last screen, with its heading, has at most 305 bytes
+-- a last screen of a reader, if there is one, has with its heading of at most 9 bytes at most 305 bytes
 last-fits : (heading : List ℕ) (style : Style) (history : List Entry) (readings : ℕ) (last : Option (List ℕ)) → length heading ≤ 9 → IsRoster style.roster → IsLegal history
     → HasLooked style history readings last → length (last_text heading last) ≤ 305
 last-fits heading style history readings None head is legal looked = omega arith

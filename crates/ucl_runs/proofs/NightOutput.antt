@@ -8,7 +8,8 @@ use Rattle.ucl_live_board.specs.declared.live_board.LiveBoard as boards
 use Rattle.ucl_runs.specs.declared.night.NightEnd.{NightEnd}
 use Rattle.ucl_runs.proofs.Merges.{all_merges_agree}
 
--- a reader whose pass has seen a beginning of a history has looked at that
+-- if what a reader's pass has seen is a prefix of a history, its last screen is of the board after a prefix of that history; it has none if
+-- it took no reading
 looked : (style : Style) (history : List Entry) (old new : PassView) (readings : ℕ) (last : Option (List ℕ)) → IsPrefix new.seen history
     → HasShown style old new readings last → HasLooked style history readings last
 looked style history old new readings None on h = sym h.many ∙ ap length h.last_is

@@ -21,9 +21,10 @@ use Rattle.ucl_live_board.specs.declared.live_board.LiveBoard as boards
 use Rattle.ucl_io.specs.declared.stream.Sink as writes
 
 -- if the input, as far as it is known, means this script, the text of its events is what `feed` writes for the input
-pub fed : (known : Option (List ℕ)) (night : Script) (text : List ℕ) → IfSome known (λ bytes. MeansNight bytes (Ok night)) → text ≡ feed_text night.events → IfSome known (λ bytes. IsFed bytes text)
-fed None night text means is = tt
-fed (Some bytes) night text means is = record { night = night; means = means; text_is = is }
+pub text_of_feed : (known : Option (List ℕ)) (night : Script) (text : List ℕ)
+    → IfSome known (λ bytes. MeansNight bytes (Ok night)) → text ≡ feed_text night.events → IfSome known (λ bytes. IsFed bytes text)
+text_of_feed None night text means is = tt
+text_of_feed (Some bytes) night text means is = record { night = night; means = means; text_is = is }
 
 -- if the input, as far as it is known, means this sheet, its screen is the text that `show` writes for the input
 pub shown : (profile : Profile) (known : Option (List ℕ)) (group : ℕ) (sheet : WrittenSheet) (text : List ℕ) → IfSome known (λ bytes. MeansSheet bytes (Ok sheet))
@@ -32,13 +33,13 @@ pub shown : (profile : Profile) (known : Option (List ℕ)) (group : ℕ) (sheet
 shown profile None group sheet text means is = tt
 shown profile (Some bytes) group sheet text means is = record { sheet = sheet; means = means; text_is = is }
 
--- P holds of the text of a run, if it holds of each text that the input calls for
+-- if the input, as far as known, calls for this text, and P holds of it if it is called for, the input calls for a text of which P holds
 text-has : (CallsFor : List ℕ → List ℕ → Type 0) (known : Option (List ℕ)) (text : List ℕ) (P : List ℕ → Type 0) → IfSome known (λ bytes. CallsFor bytes text)
     → ((bytes : List ℕ) → CallsFor bytes text → P text) → TextHas CallsFor known P
 text-has CallsFor None text P is h = tt
 text-has CallsFor (Some bytes) text P is h = (text, is, h bytes is)
 
--- of a text of less than 2^64 bytes those that went out are counted exactly
+-- if a sink fails within a text of fewer than 2^64 bytes, exactly the first `written` bytes of the text went out
 exact : (failed : Bool) (old new : Option (List ℕ)) (text : List ℕ) (written : ℕ) → length text < 2 ^ 64 → StoppedShort 0 failed old new text written → WroteFirst old new written text
 exact failed old new text written short s =
     let cut = s.first.cut in
@@ -105,12 +106,12 @@ module _ {W : Type 0} (known : writes.Ghosts W) (task : Task) (before after : St
   refused Means view input.OutOfMemory reads why may memory same = stopped OutOfMemory tt same reads memory tt (λ bad. absurd (cc))
   refused Means view e reads why may memory same = stopped (Input e) tt same reads.0 (may e) why (λ bad. absurd (cc))
 
--- what holds of the events of a script holds if it is read
+-- if the input, as far as it is known, is this script, and Q holds of its events, the input is a script of whose events Q holds
 pub scripted : (known : Option (List ℕ)) (night : Script) (Q : List NightEvent → Type 0) → IfSome known (λ bytes. MeansNight bytes (Ok night)) → Q night.events → IsOfScript known Q
 scripted None night Q means h = tt
 scripted (Some bytes) night Q means h = (night, means, h)
 
--- a night that wrote the output of its events wrote what its input calls for
+-- if the input, as far as it is known, is this script, the output of a night of its events is what `ucl_night night` writes for the input
 pub played : (profile : Profile) (group readings : ℕ) (known : Option (List ℕ)) (night : Script) (text : List ℕ) → IfSome known (λ bytes. MeansNight bytes (Ok night))
     → IsOutputOfNight night.events (styled profile night.clubs group) readings text → IfSome known (λ bytes. IsPlayed profile group readings bytes text)
 played profile group readings None night text means is = tt
@@ -148,6 +149,7 @@ module _ {B R P X : Type 0} (live : boards.Ghosts B R P) (Opens : Result (B × R
       stopped sink (night_task live Opens profile group readings) (record { left = known; calls = k; read_failed = b; sink = w }) after calls f tt same reads
       (fault_of f why duty) tt (λ bad. absurd (cc))
 
+-- a number from 1 to 2 is 1 or 2
 one_or_two : (n : ℕ) → 1 ≤ n → n ≤ 2 → (n ≡ 1) ⊎ (n ≡ 2)
 one_or_two zero low high = absurd (omega arith)
 one_or_two (suc zero) low high = inl (omega arith)
@@ -162,7 +164,7 @@ duty_more i rows row below is low high so_far = All-more IsOnDuty rows i row bel
 pub duty_all : (i : ℕ) (rows : List NightEvent) → length rows ≤ i → All IsOnDuty (take i rows) → All IsOnDuty rows
 duty_all i rows past all = subst (All IsOnDuty) (take_all i rows past) all
 
--- a row of a reporter above 2, after i rows of reporters 1 and 2, is the first one off duty, in row 5 + i
+-- if the first i events are of reporters 1 and 2, and the next is of one above 2, that is the first off duty, in row 5 + i of the script
 pub first_off_duty : (i : ℕ) (rows : List NightEvent) (event : NightEvent) → i < length rows → event ≡ get_or rows i event → All IsOnDuty (take i rows)
     → 2 < event.reporter → IsFirstOffDuty rows (5 + i)
 first_off_duty i rows event below is so_far high = record {
@@ -175,11 +177,12 @@ first_off_duty i rows event below is so_far high = record {
   row_is = let many : length (take i rows) ≡ i = length-take-le i rows (omega arith) in omega arith;
 }
 
--- versions rise still with one that is no lower than what had been seen
+-- versions that never fall, and are at most `seen`, still never fall if one that is at least `seen` is added
 pub rises_more : (versions : List ℕ) (seen version : ℕ) → IsNonDecreasing versions → All (λ v. v ≤ seen) versions → seen ≤ version → IsNonDecreasing (versions ++ version ∷ [])
 rises_more versions seen version rises high low = IsNonDecreasingBy-push (λ v. v) versions version rises (λ d some. (let last = high (length versions - 1) d (omega arith) in omega arith))
 
--- one reading more
+-- if a reader's pass has shown so many readings, and then takes one more, of which `text` is the screen, it has shown one more, and `text`
+-- is its last screen
 pub shown_more : (style : Style) (k m z : PassView) (reading : Reading) (readings : ℕ) (last : Option (List ℕ)) (text : List ℕ)
     → HasShown style k m readings last → Continues m z → SharedReading m reading z → text ≡ styled_screen style reading.board
     → HasShown style k z (readings + 1) (Some text)
@@ -200,6 +203,6 @@ shown_more style k m z reading readings last text h on read is =
       last_is = record { before = m.shown; version = reading.version; last = read.shown; text_is = is ∙ ap (λ (r : Reading). styled_screen style r.board) read.snapshot };
     }
 
--- a reading that was just taken is the last of its pass
+-- a reading that a pass, `m` and then `z`, has just taken is the last reading of the pass
 pub just_read : (m z : PassView) (reading : Reading) → SharedReading m reading z → IsReadingOf z reading
 just_read m z reading is = record { before = _; last = is.shown; high = is.high; snapshot = is.snapshot }

@@ -1,7 +1,4 @@
--- A night: two reporters in threads enter the rows of a script, each an event, on a board, while two readers show it. A history lists the
--- accepted events, its entries; its length is a version. Of a pass, a thread's permission on the board, a `PassView` is known: the history
--- that it has `seen`, its reporter's `number` on the board, the entries under that, `mine`, the versions that it has read, `shown`, and its
--- `share` of the whole permission. An attempt is a call to enter an event under a number. A row is on duty if it is of reporter 1 or 2.
+-- A night: two reporters in threads enter the rows of a script on a board, while two readers show it.
 use Rattle.std.specs.Prelude.{◌≡◌, ◌≢◌, ◌⊎◌, ℕ, ◌+◌, ◌<◌, ◌≤◌, ◌==◌, true, false, List, [], ◌∷◌, ◌++◌, All, length, map, take, slice_get, slice_index_or, Option}
 use Rattle.std.specs.Prelude.{Some, None, filter, option_map, if◌then◌else◌, codes, String, string_bytes, ⊤, Result, IfErr, IfOk, MatchResult}
 use mathlib.Core.List.{IsPrefix}
@@ -28,11 +25,11 @@ use Rattle.ucl_runs.specs.declared.night.NightEnd.{NightEnd}
 use Rattle.ucl_runs.specs.declared.threads.Workers.{Workers}
 use Rattle.ucl_runs.specs.Show.{Style, styled, styled_screen}
 
--- the number on the board of a reporter of the script, 1 or 2, if reporter 1 has the number `first` there, and 2 has `second`
+-- the number on the board of a reporter of a script: `first` for reporter 1, and `second` for any other, which is reporter 2
 abbrev pub number_of_two : ℕ → ℕ → ℕ → ℕ
 number_of_two first second reporter = if reporter == 1 then first else second
 
--- the attempt of a row of the script: its call, under the number that `number` gives to its reporter on the board
+-- the attempt (an event to enter, under a number on the board) that a row of a script makes; `number` gives its reporter's number
 abbrev pub attempt_by : (ℕ → ℕ) → NightEvent → Attempt
 attempt_by number row = attempted (number row.reporter) row.call
 
@@ -62,26 +59,26 @@ pub record IsEnteredAt (history : List Entry) (attempt : Attempt) (point : ℕ) 
 abbrev pub HasLinearizationPoint : List Entry → Attempt → ℕ → Type 0
 HasLinearizationPoint history attempt point = IsRefusedAt history attempt point ⊎ IsEnteredAt history attempt point
 
--- the linearization points of two rows of one reporter, the first of which makes this attempt, do not fall, and rise if that is accepted
+-- the linearization points of two rows of one reporter: `point` ≤ `next`, and `point` < `next` if the first row's attempt is accepted
 pub record ComesFirst (history : List Entry) (attempt : Attempt) (point next : ℕ) : Type 0 where
   pub never_falls : point ≤ next
   pub rises : IsEnteredAt history attempt point → point < next
 
--- the row with this index has its linearization point at this position of a history, and is accepted there: it is the entry there
+-- the entry of a history at this position is that of row `index`: the row has its linearization point there, and is accepted
 pub record IsOfRow (number : ℕ → ℕ) (rows : List NightEvent) (point : ℕ → ℕ) (history : List Entry) (position index : ℕ) : Type 0 where
   pub row : NightEvent
   pub here : slice_get rows index ≡ Some row
   pub point_is : point index ≡ position
   pub entered : IsEnteredAt history (attempt_by number row) position
 
--- the entry of a history at this position is that of exactly one row, the points of all rows being given by `point`
+-- the entry of a history at this position is that of exactly one row; `point i` is the linearization point of row i
 pub record IsOfOneRow (number : ℕ → ℕ) (rows : List NightEvent) (point : ℕ → ℕ) (history : List Entry) (position : ℕ) : Type 0 where
   pub index : ℕ
   pub is : IsOfRow number rows point history position index
   pub alone : (other : ℕ) → IsOfRow number rows point history position other → other ≡ index
 
--- a history is an interleaving of rows, whose reporters have these numbers: each entry is accepted after those before it; each row has a
--- linearization point; those of one reporter never fall in the order of the rows, and rise after an accepted row; each entry is one row's
+-- a history is an interleaving of rows, `number` giving their reporters' numbers: it is legal; each row has a linearization point; the
+-- points of one reporter's rows never fall in script order, and rise after an accepted row; each entry is that of exactly one row
 pub record IsInterleaving (number : ℕ → ℕ) (rows : List NightEvent) (history : List Entry) : Type 0 where
   pub legal : IsLegal history
   pub point : ℕ → ℕ
@@ -103,14 +100,14 @@ abbrev pub ScheduleDoesNotMatter : Type 0
 ScheduleDoesNotMatter = (number : ℕ → ℕ) (rows : List NightEvent) (history : List Entry) → IsInterleaving number rows history → EachMatchHasOneReporter rows →
     board_of history ≡ night_board number rows
 
--- two reporters' passes, `one` and `two`, and two readers' have the share of `lent`, the pass that a night was given, halved three times
+-- the share of `lent`, a night's pass, is split: reporters' `two` has a half, `one` an eighth; readers' `left` a quarter, `right` an eighth
 pub record HaveShares (lent one two left right : PassView) : Type 0 where
   pub reporter_2 : two.share ≡ second_half lent.share
   pub reader_1 : left.share ≡ second_half (first_half lent.share)
   pub reader_2 : right.share ≡ second_half (first_half (first_half lent.share))
   pub reporter_1 : one.share ≡ first_half (first_half (first_half lent.share))
 
--- a reporter's pass has no entries under its number yet, and is such as calls leave it
+-- a reporter's pass is sound (it has seen a legal history, and knows its own entries), and has entered nothing yet
 abbrev pub IsFresh : PassView → Type 0
 IsFresh pass = IsSound pass × (pass.mine ≡ [])
 
@@ -118,14 +115,14 @@ IsFresh pass = IsSound pass × (pass.mine ≡ [])
 abbrev pub IsNew : PassView → Type 0
 IsNew pass = (pass.shown ≡ []) × IsLegal pass.seen
 
--- a text is the screen, in this style, of the board after as many first entries of a history as the last of these versions says
+-- a text is the screen, in this style, of the board at the last of these versions: after as many first entries of the history
 pub record IsScreenOfLast (style : Style) (history : List Entry) (versions text : List ℕ) : Type 0 where
   pub before : List ℕ
   pub version : ℕ
   pub last : versions ≡ before ++ version ∷ []
   pub text_is : text ≡ styled_screen style (board_of (take version history))
 
--- this is the last screen of a reader that has read a history at these versions; there is none if it has read nothing
+-- the last screen of a reader whose readings of a history had these versions; none exactly if it took no reading
 abbrev pub IsLastScreen : Style → List Entry → List ℕ → Option (List ℕ) → Type 0
 IsLastScreen style history versions None = versions ≡ []
 IsLastScreen style history versions (Some text) = IsScreenOfLast style history versions text
@@ -151,7 +148,7 @@ pub record IsFirstOffDuty (rows : List NightEvent) (row : ℕ) : Type 0 where
   pub off_duty : IsOnDuty event → ⊥
   pub row_is : row ≡ length before + first_event_row
 
--- a fault of a night names the first row that is not on duty; if it is any other fault, all rows are on duty
+-- if a night's fault is `NotOnDuty`, it names the first row not of reporter 1 or 2; if it is any other, all rows are of these two
 abbrev pub IsDutyTold : List NightEvent → RunFault → Type 0
 IsDutyTold rows f = MatchDuty f (IsFirstOffDuty rows) (All IsOnDuty rows)
 
@@ -168,7 +165,7 @@ last_text heading (Some text) = heading ++ text
 abbrev pub night_text : Option (List ℕ) → Option (List ℕ) → List ℕ → List ℕ
 night_text one two closing = (last_text (codes "READER 1\n") one ++ last_text (codes "READER 2\n") two) ++ (codes "FINAL\n" ++ closing)
 
--- the output of a night, whose readers had these last screens, of which the screen of the board at the end is this
+-- the output of a night: `last` has the last screens of its two readers, and `closing` is the screen of the board at its end
 abbrev pub night_output : {Y Z : Type 0} → List (Option (String Y)) → String Z → List ℕ
 night_output last closing = night_text (last_shown last 0) (last_shown last 1) (string_bytes closing)
 

@@ -1,6 +1,5 @@
 -- What a run of `feed`, of `show` or of a night promises, and what `ucl_night` does for its arguments. A task is what a run is to do with
--- its input. Streams are a sink, and what is known of a source, at one moment of a run. A script has rows of clubs and then of events; in
--- a night two reporters enter those on a board that threads share, while two readers show it.
+-- its input. Streams are a sink, and what is known of a source, at one moment of a run.
 use Rattle.std.specs.Prelude.{◌≡◌, ◌≢◌, ℕ, ◌≤◌, ⊤, Bool, List, All, length, take, Option, Some, None, IfSome, Result, Ok, Err, IfErr, OnOk}
 use Rattle.ucl_board.specs.declared.entry.Entry.{Entry}
 use Rattle.ucl_board.specs.History.{board_of}
@@ -28,25 +27,25 @@ use Rattle.ucl_rows.specs.Run.{BlamesOutput, CallsWithin, IfInput, IfWriteFailed
 
 -- What a run promises. --
 
--- what a run is to do: the text that the bytes of an input call for; which faults it may have on such an input; and why an input is refused,
--- by its bytes before and after and whether the source has failed
+-- the specification of a run: the text that it writes for the bytes of an input; the faults that it may end with, by the bytes if known;
+-- and why an input is refused, by the bytes left before and after and whether a read has failed
 pub record Task : Type 1 where
   pub calls_for : List ℕ → List ℕ → Type 0
   pub may_fail : Option (List ℕ) → RunFault → Type 0
   pub refuses : Option (List ℕ) → Option (List ℕ) → Bool → InputFault → Type 0
 
--- the bytes that a source has left, if they are known, how often it was called, and whether a read has failed; and a sink
+-- the state of a run's two streams: of its source the bytes left, if known, its number of calls, and whether a read has failed; its sink
 pub record Streams (W : Type 0) : Type 0 where
   pub left : Option (List ℕ)
   pub calls : ℕ
   pub read_failed : Bool
   pub sink : W
 
--- what is known of this source, and this sink, as they are now
+-- the state of a source and a sink: what the ghost functions `known` say of the source (bytes left, calls, failure), and the sink itself
 abbrev pub streams_at : {S W : Type 0} → reads.Ghosts S → S → W → Streams W
 streams_at known source sink = record { left = known.left source; calls = known.calls source; read_failed = known.failed source; sink = sink }
 
--- a run of this task ended with this result, and its streams were `before` and are `after`
+-- a run with this specification (`task`) ended with this result, and took its source and its sink from the state `before` to `after`
 pub record IsRun {W : Type 0} (known : writes.Ghosts W) (task : Task) (before after : Streams W) (result : Result ⊤ RunFault) : Type 0 where
   pub text : WritesAll task.calls_for before.left (known.taken before.sink) (known.taken after.sink) result
   -- no other faults come
@@ -68,7 +67,7 @@ pub record IsRun {W : Type 0} (known : writes.Ghosts W) (task : Task) (before af
 
 -- What each task is. --
 
--- the task of `feed`
+-- the specification of `ucl_night feed`: for a script it writes reply lines and word lines; it fails only for its input, memory or output
 abbrev pub feed_task : Task
 feed_task = record {
   calls_for = IsFed;
@@ -76,7 +75,7 @@ feed_task = record {
   refuses = λ old new failed fault. Reads MeansNight night_seen old new failed (Err fault);
 }
 
--- the task of `show`, by this profile, the set of tie-break rules, and for the group with this letter
+-- the specification of `ucl_night show`: for a sheet it writes the screen, by this tie-break order and for the group with this letter
 abbrev pub show_task : Profile → ℕ → Task
 show_task profile group = record {
   calls_for = IsShown profile group;
@@ -155,7 +154,7 @@ module _ {B R P X : Type 0} (live : boards.Ghosts B R P) (Opens : Result (B × R
 
 -- What `ucl_night` does for its arguments. --
 
--- a run of this task: its exit status, and what it prints on the error sink
+-- a run of this task took the streams from `before` to `after`, and `e` has its exit status and what went to the error sink
 abbrev pub RunsTask : {W : Type 0} → writes.Ghosts W → Task → Streams W → Streams W → Ended → Type 0
 RunsTask known task before after e = (r : Result ⊤ RunFault) × IsRun known task before after r × Ends r e
 
@@ -164,8 +163,8 @@ abbrev pub IsNoNight : Line → Type 0
 IsNoNight (Night group readings profile) = ⊥
 IsNoNight _ = ⊤
 
--- what the program does if its arguments ask for `feed` or `show`; or if they ask for help, are refused, or could not be read for lack of
--- memory, when the source is as it was; and its exit status, and what it prints on the error sink
+-- how `ucl_night` ends, by its parsed arguments: it has run `feed` or `show` (not a night); or, if they ask for help, are refused, or could
+-- not be read for lack of memory, it has left the source alone. `e` has the exit status and what went to the error sink
 abbrev pub Runs : {W : Type 0} → writes.Ghosts W → Result Line LineFault → Streams W → Streams W → Ended → Type 0
 Runs known (Ok Feed) before after e = RunsTask known feed_task before after e
 Runs known (Ok (Show group profile)) before after e = RunsTask known (show_task profile group) before after e

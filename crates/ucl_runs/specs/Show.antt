@@ -1,5 +1,4 @@
--- The text of `show`, which is the screen of a sheet: a board that was written down, with its clubs. The style in which a night, a run of
--- two reporters and two readers, shows its boards. A profile is the set of tie-break rules that order the table of a screen.
+-- The text of `show`, which is the screen of a sheet; and the style in which a night shows its boards.
 use Rattle.std.specs.Prelude.{◌≡◌, ℕ, List, Ok}
 use Rattle.ucl_order.specs.declared.profile.Profile.{Profile}
 use Rattle.ucl_order.specs.Roster.{NamedClub}

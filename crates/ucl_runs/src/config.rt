@@ -1,6 +1,4 @@
-//! What the workers of a night have in common. A night is a run of a script (clubs and events) on a board that threads share: workers 1 and
-//! 2 are reporters, 3 and 4 readers, who read it and show it; a pass is a thread's permission on it. A gate is what workers call as they
-//! go, which tests use to hold them up. A profile is a set of tie-break rules.
+//! What the workers of a night have in common: workers 1 and 2 are reporters, 3 and 4 readers.
 
 ghost use Rattle.std.specs.Prelude.{◌≡◌};
 ghost use Rattle.ucl_live_board.specs.Passes.{IsSound, IsReadingOf};
@@ -20,7 +18,7 @@ pub struct NightGate<'n, G> {
 }
 
 impl<'n, G: Gate> NightGate<'n, G> {
-    /// Returns a wrapper of this gate.
+    /// Wraps a gate, which the workers of a night call as they go, in a private field.
     pub fn of(gate: &'n G) -> NightGate<'n, G> {
         NightGate { gate }
     }

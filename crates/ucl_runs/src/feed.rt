@@ -1,5 +1,4 @@
-//! The run of `ucl_night feed`, which enters a script, rows of four clubs and then of events, on a board of its own. The version of a board
-//! is the number of its events, and its words are its twelve matches, each packed into 64 bits.
+//! The run of `ucl_night feed`, which enters a script on a board of its own.
 
 ghost use Rattle.std.specs.Prelude.{◌≡◌, ◌≤◌, ◌++◌, List, length, IfOk, OnOk};
 ghost use Rattle.ucl_board.specs.declared.entry.Entry.{Entry};

@@ -1,5 +1,4 @@
-//! The gate of a night, which tests use to count its calls and to hold up its threads. A night is a run of a script of events on one board
-//! by two reporters and two readers, each a worker in a thread of its own.
+//! The gate of a night, which tests use to count its calls and to hold up its threads.
 
 use ucl_board::Reading;
 
@@ -7,7 +6,8 @@ use ucl_board::Reading;
 /// does, which may wait, count or write down its calls; but by holding workers up it can decide in which order the events of both reporters
 /// come to the board, and whether the night ends.
 pub trait Gate: Sync {
-    /// Is called before each of a worker's calls on the board, which are counted from 0 (and, past `u32::MAX`, from 0 again).
+    /// Is called before each call on the board of a worker, a reporter (1, 2) or a reader (3, 4). A worker's calls are counted from 0 (and,
+    /// past `u32::MAX`, from 0 again).
     fn come(&self, worker: u8, call: u32);
 
     /// Is called after each screen of a reader, with the reading, a snapshot of the board, of which `text` is the screen.

@@ -1,8 +1,6 @@
-//! The runs of `ucl_night`, over any source of bytes and any sink: `feed_run` enters a script of events, and writes what became of each
-//! event and how the twelve matches stand; `show_run` writes the screen of a board that was written down; `night_run` has two reporters
-//! enter a script in threads of their own on any live board, which is one that threads share, while two readers look on, and `put_night`
-//! writes their screens. `run` and `run_night` do what the arguments of `ucl_night` ask for. Sessions and followers are in
-//! `ucl_live_runs`.
+//! The runs of `ucl_night`, over any source and any sink: `feed_run` enters a script, `show_run` writes the screen of a sheet, and
+//! `night_run` has two reporters enter a script on any live board while two readers look on; `put_night` writes their screens. `run` and
+//! `run_night` do what the arguments of `ucl_night` ask for.
 #![tactic(auto)]
 
 mod config;

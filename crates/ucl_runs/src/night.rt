@@ -1,6 +1,5 @@
-//! Nights: two reporters enter a script on one live board, each in a thread of its own, while two readers show it. A live board is one that
-//! threads share, and a pass is a thread's permission on it; the script has rows of clubs and then of events, of reporters 1 and 2, who are
-//! on duty. At the end they settle: one, who has seen what both have, reads the board, and finds whether all its events are theirs.
+//! Nights: two reporters enter a script on one live board, each in a thread of its own, while two readers show it. At the end they settle:
+//! one, who has seen what both have, reads the board, and finds whether all its events are theirs.
 
 ghost use Rattle.std.specs.Prelude.{◌≡◌, ◌+◌, ◌-◌, ◌^◌, All, IfErr, IfOk, MatchResult, OnOk, length, min, option_map, string_bytes};
 ghost use Rattle.std.specs.Io.KnownBytes.{Appends};

@@ -51,8 +51,8 @@ pub fn run<S: Source, W: Sink, E: Sink>(
     }
 }
 
-/// Runs a night on a live board, and makes sure that what its readers showed is of the history that was settled. Only reporters' passes can
-/// meet, so the readers' passes become such; reporter 2 is told what they have seen, and reads the board again.
+/// Runs a night on a live board, and makes sure that what its readers showed is of the history that was settled: their passes are enlisted,
+/// since only reporters' passes can meet, and meet that of reporter 2, which reads the board again and has to find the settled version.
 ///
 /// # Errors
 ///

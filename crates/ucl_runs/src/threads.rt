@@ -1,6 +1,5 @@
-//! A thread for each worker of a night: two reporters enter their rows of a script on a board that threads share, and two readers show it.
-//! A pass is a thread's permission on that board. A promise says what holds of the value that a thread hands back when it is joined; it
-//! keeps snapshots, which are copies that only contracts see, of what the thread was given.
+//! A thread for each worker of a night. A promise says what holds of the value that a thread hands back when it is joined; it keeps copies,
+//! which only contracts see, of what the thread was given.
 
 ghost use Rattle.std.specs.Prelude.{◌≡◌, IfOk, MatchResult};
 ghost use Rattle.ucl_screen.specs.Screen.{IsGroup};

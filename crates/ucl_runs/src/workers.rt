@@ -1,6 +1,5 @@
-//! What each thread of a night does. A reporter enters its rows of a script, each an event, on a board that all threads share; a reader
-//! takes readings, which are snapshots of the board, and renders their screens. A pass is a thread's permission on the board. Workers 1 and
-//! 2 are the reporters, 3 and 4 the readers; a gate is called before each call on the board.
+//! What each thread of a night does: a reporter enters its rows of the script, and a reader takes readings and renders their screens. The
+//! gate is called before each call on the board.
 
 ghost use Rattle.std.specs.Prelude.{IfOk, option_map, string_bytes};
 ghost use Rattle.ucl_screen.specs.Screen.{IsGroup};

@@ -30,7 +30,7 @@ wide_difference scored conceded s c = wide_right 5 (difference_text scored conce
 wide_mark : (mark : Mark) → length (mark_text mark) ≡ 3
 wide_mark mark = search arith
 
--- twelve pieces of known lengths
+-- the length of twelve texts, one after the other, is the sum of their lengths
 added : (a b c d e f g h i j k l : List ℕ) → length (a ++ b ++ c ++ d ++ e ++ f ++ g ++ h ++ i ++ j ++ k ++ l)
     ≡ length a + length b + length c + length d + length e + length f + length g + length h + length i + length j + length k + length l
 added a b c d e f g h i j k l = simp length-append
@@ -59,16 +59,16 @@ wide_line row name w place fits =
 pub lines_wide : LinesHave53Columns
 lines_wide = record { names = refl; places = wide_line }
 
--- a printed byte is below 128
+-- a printable ASCII byte is less than 128
 below : (b : ℕ) → is_printed b ≡ true → b < 128
 below b h = let e = (and_parts (nat_le 0x20 b) (nat_le b 0x7e) h).1 in grind (arith, nat_tests)
 
--- printed bytes are ASCII
+-- a text of printable bytes is ASCII
 printed_ascii : (bs : List ℕ) → list_all is_printed bs ≡ true → IsAscii bs
 printed_ascii [] h = IsAscii-nil
 printed_ascii (b ∷ bs) h = let e = and_parts (is_printed b) (list_all is_printed bs) h in IsAscii-cons b bs (below b e.0) (printed_ascii bs e.1)
 
--- printed bytes are UTF-8
+-- a text of printable ASCII bytes is UTF-8
 pub printed_utf8 : (bs : List ℕ) → list_all is_printed bs ≡ true → IsUtf8 bs
 printed_utf8 bs h = IsUtf8-from_ascii bs (printed_ascii bs h)
 
@@ -84,6 +84,6 @@ one_part before = append-nil (before ++ []) ∙ append-nil before
 pub two_parts : (before number : List ℕ) → before ++ number ++ [] ≡ before ++ number
 two_parts before number = append-nil (before ++ number)
 
--- a line with no number between its parts
+-- a line with no number is the text before and the text after, with nothing between them
 pub no_number : (before after : List ℕ) → before ++ after ≡ before ++ [] ++ after
 no_number before after = ap (λ bytes. bytes ++ after) (sym (append-nil before))

@@ -17,8 +17,8 @@ pub use Rattle.std.proofs.Math.Nat.{pow-le-pow_right, pow-suc}
 pub use Rattle.std.proofs.lemmas.Bool.{and_parts, cases_Bool}
 pub use Rattle.std.proofs.lemmas.Bool.Decides.{nat_tests}
 pub use Rattle.std.proofs.lemmas.Fmt.{length-decimal-le}
-pub use Rattle.std.proofs.lemmas.Grind.{common_steps, flat_map-append, take-set_at}
-pub use Rattle.std.proofs.lemmas.List.{length-replicate, length-set, take_all, take_more}
+pub use Rattle.std.proofs.lemmas.Grind.{flat_map-append, take-set_at}
+pub use Rattle.std.proofs.lemmas.List.{drop_all, length-replicate, length-set, take_all, take_more}
 pub use Rattle.std.proofs.lemmas.Result.{err_from_is_err_and}
 pub use Rattle.std.proofs.lemmas.Str.{IsUtf8-from_ascii}
 pub use Rattle.std.proofs.lemmas.Str.Ascii.{IsAscii-cons, IsAscii-nil}

@@ -1,9 +1,9 @@
 -- Numbers read one digit at a time.
-use Rattle.ucl_screen.proofs.Common.{Bool, List, None, Some, [], add-one, arith, common_steps, digits_after, drop, drop-cons, false, get_or}
+use Rattle.ucl_screen.proofs.Common.{Bool, List, None, Some, add-one, arith, digits_after, drop, drop-cons, drop_all, false, get_or}
 use Rattle.ucl_screen.proofs.Common.{hex_after, hex_digit, hex_word, inl, inr, is_digit, length, nat_tests, number, pow-le-pow_right}
 use Rattle.ucl_screen.proofs.Common.{pow-suc, refl, true, zero, ℕ, ◌*◌, ◌+◌, ◌-◌, ◌<◌, ◌==◌, ◌^◌, ◌≡◌, ◌≤◌, ◌⊎◌}
 
--- a text of at least one byte, and at most so many, is read as a number from its first digit on
+-- a text of 1 to `most` bytes is read as a number digit by digit, from its first byte on
 pub number-is : (most : ℕ) (text : List ℕ) → 1 ≤ length text → length text ≤ most → number most text ≡ digits_after 0 text
 number-is most text a b = grind (arith, nat_tests)
 
@@ -11,7 +11,7 @@ number-is most text a b = grind (arith, nat_tests)
 digit-true : (b : ℕ) → 48 ≤ b → b ≤ 57 → is_digit b ≡ true
 digit-true b p q = grind (arith, nat_tests)
 
--- a digit at place i of a text is read onto the number n of the digits before, and the rest from place i + 1 on
+-- if byte i of a text is a digit, to read on from i with n so far is to read on from i + 1 with 10 n plus the digit so far
 pub more-digits : (n i : ℕ) (text : List ℕ) → i < length text → 48 ≤ get_or text i 0 → get_or text i 0 ≤ 57
     → digits_after n (drop i text) ≡ digits_after (10 * n + (get_or text i 0 - 48)) (drop (i + 1) text)
 unfolding digits_after
@@ -22,7 +22,7 @@ other-byte : (b : ℕ) → (b < 48) ⊎ (57 < b) → is_digit b ≡ false
 other-byte b (inl low) = grind (arith, nat_tests)
 other-byte b (inr high) = grind (arith, nat_tests)
 
--- a text that has, from place i on, a byte that is no digit gives no number
+-- if byte i of a text is no digit, reading on from i gives no number
 pub no-digit : (n i : ℕ) (text : List ℕ) → i < length text → (get_or text i 0 < 48) ⊎ (57 < get_or text i 0) → digits_after n (drop i text) ≡ None
 unfolding digits_after
 no-digit n i text h other = rw (drop-cons text i 0, other-byte _ other) refl
@@ -30,9 +30,9 @@ no-digit n i text h other = rw (drop-cons text i 0, other-byte _ other) refl
 -- where no byte is left from place i on, the number is n, that of the digits before
 pub no-more : (n i : ℕ) (text : List ℕ) → length text ≤ i → digits_after n (drop i text) ≡ Some n
 unfolding digits_after
-no-more n i text h = let e : drop i text ≡ [] = grind (arith, common_steps) in rw e refl
+no-more n i text h = rw (drop_all i text h) refl
 
--- a text that the test does not find empty has a byte
+-- a text that the test for length 0 finds not empty has at least one byte
 pub nonempty : (text : List ℕ) (r : Bool) → r ≡ (length text == 0) → r ≡ false → 1 ≤ length text
 nonempty text r e f = grind (arith, nat_tests)
 
@@ -44,13 +44,13 @@ one-more-digit n i d h k = rw (add-one i, pow-suc 10 i) (omega arith)
 pub word-is : (text : List ℕ) → length text ≡ 16 → hex_word text ≡ hex_after 0 text
 word-is text e = rw e refl
 
--- a hexadecimal digit at place i of a text is read onto the number n of the digits before, and the rest from place i + 1 on
+-- if byte i of a text is a hexadecimal digit, to read on from i with n so far is to read on from i + 1 with 16 n plus the digit so far
 pub more-hex : (n i d : ℕ) (text : List ℕ) → i < length text → hex_digit (get_or text i 0) ≡ Some d
     → hex_after n (drop i text) ≡ hex_after (16 * n + d) (drop (i + 1) text)
 unfolding hex_after
 more-hex n i d text h e = rw (drop-cons text i 0, add-one i, e) refl
 
--- a text that has, from place i on, a byte that is no hexadecimal digit gives no number
+-- if byte i of a text is no hexadecimal digit, reading on from i gives no number
 pub no-hex : (n i : ℕ) (text : List ℕ) → i < length text → hex_digit (get_or text i 0) ≡ None → hex_after n (drop i text) ≡ None
 unfolding hex_after
 no-hex n i text h e = rw (drop-cons text i 0, e) refl
@@ -58,13 +58,13 @@ no-hex n i text h e = rw (drop-cons text i 0, e) refl
 -- where no byte is left from place i on, the number is n, that of the hexadecimal digits before
 pub no-more-hex : (n i : ℕ) (text : List ℕ) → length text ≤ i → hex_after n (drop i text) ≡ Some n
 unfolding hex_after
-no-more-hex n i text h = let e : drop i text ≡ [] = grind (arith, common_steps) in rw e refl
+no-more-hex n i text h = rw (drop_all i text h) refl
 
 -- a number of i hexadecimal digits with one digit more is a number of i + 1 of them
 pub one-more-hex : (n i d : ℕ) → n < 16 ^ i → d < 16 → 16 * n + d < 16 ^ (i + 1)
 one-more-hex n i d h k = rw (add-one i, pow-suc 16 i) (omega arith)
 
--- sixteen digits fit 64 bits
+-- a number of at most sixteen hexadecimal digits fits 64 bits
 pub hex-fits : (n i : ℕ) → n < 16 ^ (i + 1) → i < 16 → n < 2 ^ 64
 hex-fits n i h k =
     let positive : zero < 16 = omega arith in

@@ -14,7 +14,7 @@ abbrev pub low : ℕ → ℕ → List ℕ → List ℕ
 low zero n rest = rest
 low (suc k) n rest = low k (n / 16) (digit_glyph false (n % 16) ∷ rest)
 
--- the last k digits, one of which is put before the others
+-- the last k hexadecimal digits of n before `rest` are the last k - 1 of n / 16 before the last digit of n and `rest`
 pub low-step : (k n : ℕ) (rest : List ℕ) → 0 < k → low k n rest ≡ low (k - 1) (n / 16) (digit_glyph false (n % 16) ∷ rest)
 low-step zero n rest h = absurd (omega arith)
 low-step (suc k) n rest h = let e : suc k - 1 ≡ k = omega arith in rw e refl
@@ -73,11 +73,11 @@ digits-at : (k n : ℕ) → k ≡ 64 → digits_onto k 16 false n [] ≡ digits 
 unfolding digits
 digits-at k n e = rw e refl
 
--- a word is spelled by at most sixteen
+-- a 64-bit word is spelled by at most sixteen hexadecimal digits
 spelled-word : (j n : ℕ) → suc j ≡ 64 → n < 2 ^ 64 → Spelled 15 n [] (digits 16 false n)
 spelled-word j n e small = subst (Spelled 15 n []) (digits-at (suc j) n e) (spelled 15 j n [] (omega arith) (omega arith))
 
--- a word in sixteen hexadecimal digits is its last sixteen digits
+-- a 64-bit word written in sixteen hexadecimal digits, with leading zeros, is its last sixteen digits
 pub word-digits : (n : ℕ) → n < 2 ^ 64 → hex_digits n ≡ low 16 n []
 unfolding padded_integral char_count
 word-digits n small =
@@ -86,7 +86,7 @@ word-digits n small =
     let count : 16 - length s.spelt - 0 - 0 ≡ 16 - length s.spelt = omega arith in
     rw (e, count) s.filled
 
--- with the last digit of `rest` set at the next place to the left, the digits of what is left and those set are the word's
+-- if the last digit of `rest` is put into the buffer at place - 1, the digits of rest / 16 and those put so far are still the word's
 pub digits-step : (word place rest : ℕ) (old new : List ℕ) (digit : ℕ) → 0 < place → place ≤ length old → digit ≡ digit_glyph false (rest % 16)
     → new ≡ set old (place - 1) digit → low place rest (drop place old) ≡ low 16 word [] → low (place - 1) (rest / 16) (drop (place - 1) new) ≡ low 16 word []
 digits-step word place rest old new digit some short is e so_far =
@@ -96,20 +96,20 @@ digits-step word place rest old new digit some short is e so_far =
     ap (drop (place - 1)) e ∙ drop-set old (place - 1) digit within ∙ ap (λ (n : ℕ). digit ∷ drop n old) back ∙ ap (λ (d : ℕ). d ∷ drop place old) is in
     ap (low (place - 1) (rest / 16)) tail ∙ sym (low-step place rest (drop place old) some) ∙ so_far
 
--- after the sixteenth digit they are those of the word
+-- once no place is left to fill, the digits in the buffer are the sixteen hexadecimal digits of the word
 pub digits-end : (word place rest : ℕ) (digits : List ℕ) → place ≡ 0 → word < 2 ^ 64 → low place rest (drop place digits) ≡ low 16 word [] → digits ≡ hex_digits word
 digits-end word place rest digits none small so_far = (rw none at so_far) ∙ sym (word-digits word small)
 
--- the byte of a digit is read back as it
+-- the byte of a hexadecimal digit is read back as the digit
 glyph-back : (d : ℕ) → d < 16 → hex_digit (digit_glyph false d) ≡ Some d
 glyph-back (suc (suc (suc (suc (suc (suc (suc (suc (suc (suc (suc (suc (suc (suc (suc (suc d)))))))))))))))) h = absurd (omega arith)
 glyph-back _ _ = refl
 
--- digits read after a, and then the last one, make a times the greater power and the number
+-- a step of reading digits: if n is 16 * before + last, and next is 16 * power, a * power + before with `last` read on is a * next + n
 spell : (before last power next n : ℕ) → next ≡ 16 * power → n ≡ 16 * before + last → (a : ℕ) → 16 * (a * power + before) + last ≡ a * next + n
 spell before last power next n e f a = rw (e, f) (omega arith)
 
--- the last k digits of a number below 16^k, read after a, make a * 16^k and the number
+-- to read the last k hexadecimal digits of n, below 16^k, with a so far is to read on with a * 16^k + n so far
 low-back : (k n a : ℕ) (rest : List ℕ) → n < 16 ^ k → hex_after a (low k n rest) ≡ hex_after (a * 16 ^ k + n) rest
 unfolding hex_after
 low-back zero n a rest h = ap (λ (m : ℕ). hex_after m rest) (omega arith)
@@ -119,7 +119,7 @@ low-back (suc k) n a rest h =
     let whole = spell (n / 16) (n % 16) (16 ^ k) (16 ^ suc k) n p parts a in
     low-back k (n / 16) a (digit_glyph false (n % 16) ∷ rest) (omega arith) ∙ rw (glyph-back (n % 16) (omega arith), whole) refl
 
--- the last k digits of a number before others are k more bytes
+-- the last k digits of a number, put before `rest`, add k bytes to its length
 pub low-length : (k n : ℕ) (rest : List ℕ) → length (low k n rest) ≡ k + length rest
 low-length zero n rest = omega arith
 low-length (suc k) n rest = low-length k (n / 16) (digit_glyph false (n % 16) ∷ rest) ∙ omega arith

@@ -21,16 +21,16 @@ cut text tail at = ap (λ (l : List ℕ). l ++ tail) (sym (take-append-drop at t
 
 -- ---- a field
 
--- a byte that goes on with a field that began with no quote is no comma, and ends no line
+-- a byte that can belong to a field that began with no quote is no comma, and ends no line
 record Joining (b : ℕ) : Type 0 where
   comma : (b == 44) ≡ false
   end : is_line_end b ≡ false
 
--- a byte that the test takes for one that goes on with a bare field is no comma, and ends no line
+-- a byte that passes the test for a byte of a bare (unquoted) field is no comma, and ends no line
 joining : (b : ℕ) → is_joining b ≡ true → Joining b
 joining b h = record { comma = grind (arith, nat_tests, h); end = grind (arith, nat_tests, h) }
 
--- bytes of a bare field lead the parser of `csv` from within the field to within the field
+-- the parser of `csv`, within a bare (unquoted) field, copies the bytes of such a field and stays within it
 bare-run : (xs : List ℕ) → list_all is_joining xs ≡ true → Runs default_config st.InField xs
 unfolding Runs
 bare-run [] h = tt
@@ -39,7 +39,7 @@ bare-run (b ∷ xs) h =
     let j = joining b p.0 in
     (rw (j.comma, j.end) refl, bare-run xs p.1)
 
--- bytes that are no quotes lead the parser of `csv` from within a field in quotes to within it
+-- the parser of `csv`, within a field in quotes, copies bytes that are no quotes and stays within the field
 quoted-run : (xs : List ℕ) → list_all is_quotable xs ≡ true → Runs default_config st.InQuoted xs
 unfolding Runs
 quoted-run [] h = tt
@@ -79,7 +79,7 @@ quoted_field (b ∷ text) at is h inside closed = record {
 }
 quoted_field [] at is h inside closed = absurd (omega arith)
 
--- where a comma follows a field with which a text begins, the text begins with this field before the comma
+-- if a comma follows the field that a text begins with, the comma ends the field, and what is behind the comma follows
 pub comma_behind : (text field rest : List ℕ) → BeginsWithField text field rest → (get_or rest 0 0 == 44) ≡ true → IsFieldBefore text field (drop 1 rest)
 unfolding next_record
 comma_behind text field (b ∷ rest) f is = record { reads = λ tail fields. f.reads tail fields ∙ rw (eqb-true b 44 is, f.goes_on 44 refl) refl }
@@ -95,7 +95,7 @@ line-end b h = elim (cases_Bool (b == 44)) [ inl y ↦ absurd (grind (arith, nat
 between : (b : ℕ) → ends_at_end (after_end term.CRLF b) ≡ false
 between b = elim (cases_Bool (b == 13)) [ inl y ↦ rw y refl | inr n ↦ rw n refl ]
 
--- two states between records whose next record, on their texts, is the same read the same rows
+-- two states between records that read the same next record, each from its own text, read the same rows
 same-rows : (s z : State) (xs ys : List ℕ) → ends_at_end s ≡ false → ends_at_end z ≡ false → next_record default_config s [] [] xs ≡ next_record default_config z [] [] ys
     → rows_from s (Some xs) ≡ rows_from z (Some ys)
 same-rows s z xs ys j k h = by (next_record default_config z [] [] ys) refl where
@@ -104,9 +104,9 @@ same-rows s z xs ys j k h = by (next_record default_config z [] [] ys) refl wher
   by (Some p) e = rows-next s xs p j (h ∙ e) ∙ sym (rows-next z ys p k e)
 
 -- the records of a text are the rows that a parser reads of it from the start of a record
-whole : (text : List ℕ) → records default_config text ≡ rows_from st.StartRecord (Some text)
+records_are_rows : (text : List ℕ) → records default_config text ≡ rows_from st.StartRecord (Some text)
 unfolding rows_from
-whole text = refl
+records_are_rows text = refl
 
 -- an end of a line at the start of a record is passed over
 skips : (b : ℕ) (text : List ℕ) → is_line_end b ≡ true → next_record default_config st.StartRecord [] [] (b ∷ text) ≡ next_record default_config st.StartRecord [] [] text
@@ -121,11 +121,11 @@ after-return (b ∷ text) = elim (cases_Bool (b == 10)) [ inl y ↦ rw (eqb-true
 
 -- an end of a line before a text changes none of its rows
 skip-end : (b : ℕ) (text : List ℕ) → is_line_end b ≡ true → records default_config (b ∷ text) ≡ records default_config text
-skip-end b text h = whole (b ∷ text) ∙ same-rows st.StartRecord st.StartRecord (b ∷ text) text refl refl (skips b text h) ∙ sym (whole text)
+skip-end b text h = records_are_rows (b ∷ text) ∙ same-rows st.StartRecord st.StartRecord (b ∷ text) text refl refl (skips b text h) ∙ sym (records_are_rows text)
 
--- after an end of a line, the rows of the rest are the records of the text with this byte in front
+-- the rows that a parser reads behind a line end are the records of the text with the line end still in front
 behind-end : (b : ℕ) (text : List ℕ) → is_line_end b ≡ true → rows_from (after_end term.CRLF b) (Some text) ≡ records default_config (b ∷ text)
-behind-end b text h = same-rows (after_end term.CRLF b) st.StartRecord text (b ∷ text) (between b) refl (by ∙ sym (skips b text h)) ∙ sym (whole (b ∷ text)) where
+behind-end b text h = same-rows (after_end term.CRLF b) st.StartRecord text (b ∷ text) (between b) refl (by ∙ sym (skips b text h)) ∙ sym (records_are_rows (b ∷ text)) where
   by : next_record default_config (after_end term.CRLF b) [] [] text ≡ next_record default_config st.StartRecord [] [] text
   by = elim (cases_Bool (b == 13)) [ inl y ↦ rw y (after-return text) | inr n ↦ rw n refl ]
 
@@ -140,16 +140,16 @@ without-ends text tail at h = ap (records default_config) (cut text tail at) ∙
 
 -- ---- the last field
 
--- where a field ends at the end of a line, or of the text, the parser has read the row with this field, and the rest follows
+-- if a line end, or the end of the text, follows a field, the parser reads the row of `fields` and this field, then the rows of the rest
 row-ends : (s : State) (fields : Fields) (field rest : List ℕ) → ((b : ℕ) → (b == 34) ≡ false → step default_config s b ≡ in_field default_config b) → ends_at_end s ≡ true → AtLineEnd rest
     → (p : Read) × (next_record default_config s fields field rest ≡ Some p) × (p.0 ≡ fields ++ field ∷ []) × (rows_from p.1 (Some p.2) ≡ records default_config rest)
 unfolding next_record
-row-ends s fields field [] goes_on may_end h = ((fields ++ field ∷ [], st.StartRecord, []), rw may_end refl, refl, sym (whole []))
+row-ends s fields field [] goes_on may_end h = ((fields ++ field ∷ [], st.StartRecord, []), rw may_end refl, refl, sym (records_are_rows []))
 row-ends s fields field (b ∷ rest) goes_on may_end h =
     let bare : (b == 34) ≡ false = grind (arith, nat_tests, h) in
     ((fields ++ field ∷ [], after_end term.CRLF b, rest), rw (goes_on b bare, line-end b h) refl, refl, behind-end b rest h)
 
--- if two texts are each empty or begin with an end of a line, so is, or does, the one followed by the other
+-- if two texts are each empty or begin with a line end, so does the one followed by the other: it is empty or begins with one
 line-end-of : (rest tail : List ℕ) → AtLineEnd rest → AtLineEnd tail → AtLineEnd (rest ++ tail)
 line-end-of [] tail h k = k
 line-end-of (b ∷ rest) tail h k = h
@@ -165,26 +165,26 @@ row_end {rest} f h = record {
 
 -- ---- a row
 
--- a text that begins with no end of a line begins a row of no fields yet
+-- a text that is not empty and begins with no line end begins a row, of which no field is read yet
 pub no_field : (text : List ℕ) → is_line_end (get_or text 0 10) ≡ false → BeginsRow text [] text
 unfolding next_record
 no_field [] h = cc h
 no_field (b ∷ text) h = record { reads = λ tail. rw h refl }
 
--- a text that begins a row and goes on with a field before a comma begins a row with this field more
+-- if a text begins a row with some fields, and a field and a comma follow, it begins a row with these fields and that field
 pub one_more : {text rest field behind : List ℕ} {fields : Fields} → BeginsRow text fields rest → IsFieldBefore rest field behind → BeginsRow text (fields ++ field ∷ []) behind
 one_more {fields} b f = record { reads = λ tail. b.reads tail ∙ f.reads tail fields }
 
--- a text that begins a row and goes on with the last field begins with the row of all these fields
+-- if a text begins a row with some fields, and its last field follows, the text begins with the row of all these fields
 pub with_last : {text rest field behind : List ℕ} {fields : Fields} → BeginsRow text fields rest → IsLastField rest field behind → BeginsWithRow text (fields ++ field ∷ []) behind
 with_last {text} {fields} b f = record {
   at_end = f.at_end;
   rows = λ tail h.
       let p = f.reads tail fields h in
-      whole (text ++ tail) ∙ rows-next st.StartRecord (text ++ tail) p.0 refl (b.reads tail ∙ p.1) ∙ rw (p.2, p.3) refl;
+      records_are_rows (text ++ tail) ∙ rows-next st.StartRecord (text ++ tail) p.0 refl (b.reads tail ∙ p.1) ∙ rw (p.2, p.3) refl;
 }
 
--- a row that does not have four fields is no row of four
+-- `four_of`, the four fields of a row, is None for a row that has not four fields
 pub no_four : (row : Fields) → length row ≢ 4 → four_of row ≡ None
 no_four (a ∷ b ∷ c ∷ d ∷ []) h = absurd (h refl)
 no_four _ h = refl
@@ -211,7 +211,7 @@ unfolding strip_bom
 marked (a ∷ b ∷ c ∷ text) tail h p q r = rw (p, q, r) refl
 marked text tail h p q r = absurd (omega arith)
 
--- a text without a byte order mark has none with an end of a line after it
+-- a text that has no byte order mark has none either with a tail appended that is empty or begins with a line end
 pub unmarked : (text tail : List ℕ) → AtLineEnd tail → (3 ≤ length text → get_or text 0 0 ≡ 0xEF → get_or text 1 0 ≡ 0xBB → get_or text 2 0 ≡ 0xBF → ⊥) → strip_bom (text ++ tail) ≡ text ++ tail
 unfolding strip_bom
 unmarked (a ∷ b ∷ c ∷ text) tail t h = elim (cases_Bool (is_bom a b c)) [
@@ -228,7 +228,7 @@ unmarked _ _ t h = refl
 -- an empty text has no records
 no-rows : records default_config [] ≡ []
 unfolding next_record
-no-rows = whole [] ∙ rows-none st.StartRecord [] refl
+no-rows = records_are_rows [] ∙ rows-none st.StartRecord [] refl
 
 -- a line feed alone is no row
 pub no_rows_fed : records default_config (10 ∷ []) ≡ []
@@ -238,12 +238,12 @@ no_rows_fed = skip-end 10 [] refl ∙ no-rows
 pub rows_after_feed : (text : List ℕ) → rows_of (10 ∷ text) ≡ records default_config text
 rows_after_feed text = ap (records default_config) (unmarked [] (10 ∷ text) refl (λ few. absurd (omega arith))) ∙ skip-end 10 text refl
 
--- where a text without its mark changes nothing in the records of what follows it, it has no rows
+-- if a text is, but for its byte order mark, `bare`, and `bare` adds no row to any text that follows it, the text has no rows
 pub none_ahead : (text bare : List ℕ) → ((tail : List ℕ) → AtLineEnd tail → strip_bom (text ++ tail) ≡ bare ++ tail)
     → ((tail : List ℕ) → records default_config (bare ++ tail) ≡ records default_config tail) → rows_of text ≡ []
 none_ahead text bare mark none = ap (records default_config) (rw (append-nil text) at (mark [] refl)) ∙ none [] ∙ no-rows
 
--- where a text without its mark begins with a row, its rows are this one and those of the rest, from the end of the row's line on
+-- if `bare`, which is a text without its byte order mark, begins with a row, the rows of the text are this row and the rows of the rest
 pub row_ahead : (text bare rest : List ℕ) (row : Fields) → ((tail : List ℕ) → AtLineEnd tail → strip_bom (text ++ tail) ≡ bare ++ tail) → BeginsWithRow bare row rest
     → rows_of text ≡ row ∷ rows_of rest
 row_ahead text bare rest row mark b =

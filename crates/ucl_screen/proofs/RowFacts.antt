@@ -13,11 +13,11 @@ use Rattle.ucl_screen.specs.declared.rows.RowFields.TheVariants as row
 use Rattle.csv.specs.declared.parser.State.TheVariants as st
 use Rattle.csv.specs.declared.parser.Action.TheVariants as act
 
--- a byte that ends a record leaves a state between two records
+-- if a step of the parser of `csv` ends a record, the parser is between two records after it
 abbrev Closes : State × Action → Type 0
 Closes p = is_end p.1 ≡ true → ends_at_end p.0 ≡ false
 
--- whatever the parser does at a byte, if the byte ends a record, the state is between two records
+-- whatever byte the parser of `csv` reads, if the byte ends a record, the parser is between two records after it
 any-step : (s : State) (c : ℕ) → Closes (step default_config s c)
 any-step s c h = search arith
 
@@ -61,7 +61,7 @@ read-cases : (o : Option Read) → (o ≡ None) ⊎ ((p : Read) × (o ≡ Some p
 read-cases None = inl refl
 read-cases (Some p) = inr (p, refl)
 
--- more turns than there are bytes change nothing
+-- to read at most n records gives all that a text has if n is above its number of bytes: any two such bounds give the same records
 pub enough : (n m : ℕ) (s : State) (xs : List ℕ) → ends_at_end s ≡ false → length xs < n → length xs < m
     → records_from default_config n s xs ≡ records_from default_config m s xs
 unfolding records_from
@@ -143,7 +143,7 @@ read-found a b xs fields h at-a r first failed =
     let one = one-more a b xs more.0 fields h at-a more.1 more.2 in
     (record { config = r.2 ∙ h.config; untrimmed = r.3 ∙ h.untrimmed; ready = inl first; sound = failed ∙ h.sound; between = one.1 }, one.0)
 
--- a read that found no row had no rows left
+-- if a read by a reader finds no row, the reader had no rows left
 pub read-none : (a b : Source) (xs : List ℕ) (fields : Fields) → IsReading a → bytes_left a ≡ Some xs → ReadRecord (λ (s : Bor (List ℕ)). Some s.now) a b false fields
     → rows_left a ≡ []
 read-none a b xs fields h at-a r =
@@ -178,58 +178,58 @@ four_by (a ∷ b ∷ c ∷ d ∷ e ∷ fs) = refl
 
 -- ---- events and words read one row at a time
 
--- the values read so far in front of those still read, or the fault of what is still read
+-- `front`, the values read so far, and then those of `read`, which are still to be read; or the fault of `read`
 abbrev pub with_front : {A : Type 0} → List A → Result (List A) InputFault → Result (List A) InputFault
 with_front front read = read >>= λ xs. Ok (front ++ xs)
 
--- a value read before what is still read is the last of what was read so far
+-- a value counts alike as the last of those read so far and as the first of those still to be read
 pub joins : {A : Type 0} (front : List A) (x : A) (read : Result (List A) InputFault)
     → with_front (front ++ (x ∷ [])) read ≡ with_front front (read >>= λ xs. Ok (x ∷ xs))
 joins {A} front x (Ok xs) = ap (λ (t : List A). Ok t) (append_assoc front (x ∷ []) xs)
 joins front x (Err fault) = refl
 
--- an event that a row gives is the last of those read so far, before those of the next rows
+-- if a row gives an event, the events in all are the same whether it counts as read so far or as still to be read; so is their fault
 pub goes-on : (front : List NightEvent) (row : ℕ) (fields : Fields) (rows : List Fields) (e : NightEvent) → said_by event_of fields ≡ Some e
     → with_front (front ++ (e ∷ [])) (events_from (row + 1) rows) ≡ with_front front (events_from row (fields ∷ rows))
 unfolding events_from
 goes-on front row fields rows e h = joins front e (events_from (row + 1) rows) ∙ rw h refl
 
--- a row that gives no event is the fault BadRow with its number
+-- if a row gives no event, the result is the fault BadRow with the number of the row, whatever was read before it
 pub stops : (front : List NightEvent) (row : ℕ) (fields : Fields) (rows : List Fields) → said_by event_of fields ≡ None
     → with_front front (events_from row (fields ∷ rows)) ≡ Err (BadRow row)
 unfolding events_from
 stops front row fields rows h = rw h refl
 
--- without further rows the events are those read so far
+-- if no rows are left, the events in all are those read so far
 pub is-done : (front : List NightEvent) (row : ℕ) → with_front front (events_from row []) ≡ Ok front
 unfolding events_from
 is-done front row = ap (λ (t : List NightEvent). Ok t) (append-nil front)
 
--- a word that a row gives is the last of those read so far, before those of the next rows
+-- if a row gives a word, the words in all are the same whether it counts as read so far or as still to be read; so is their fault
 pub word-more : (front : List ℕ) (n more game : ℕ) (fields : Fields) (rows : List Fields) (w : ℕ) → n ≡ suc more → said_by (word_of_row game) fields ≡ Some w
     → with_front (front ++ (w ∷ [])) (words_from more (game + 1) rows) ≡ with_front front (words_from n game (fields ∷ rows))
 unfolding words_from
 word-more front n more game fields rows w e h = joins front w (words_from more (game + 1) rows) ∙ rw (e, h) refl
 
--- a row that gives no word of its match is the fault BadRow with its number, four more than the match's
+-- if the row of match `game` gives no word of this match, the result is the fault BadRow with the number of the row, `game` + 4
 pub word-bad : (front : List ℕ) (n more game : ℕ) (fields : Fields) (rows : List Fields) → n ≡ suc more → said_by (word_of_row game) fields ≡ None
     → with_front front (words_from n game (fields ∷ rows)) ≡ Err (BadRow (game + 4))
 unfolding words_from
 word-bad front n more game fields rows e h = rw (e, h) refl
 
--- a row of a word that is missing is the fault BadRow with its number, four more than the match's
+-- if the row of match `game` is missing, the result is the fault BadRow with the number of the row, `game` + 4
 pub word-missing : (front : List ℕ) (n more game : ℕ) → n ≡ suc more → with_front front (words_from n game []) ≡ Err (BadRow (game + 4))
 unfolding words_from
 word-missing front n more game e = rw e refl
 
--- a row after the last word is the fault BadRow with its number, four more than the match's would be
+-- if a row follows the last word, the result is the fault BadRow with its number, `game` + 4, as if it were the row of match `game`
 pub word-over : (front : List ℕ) (n game : ℕ) (fields : RowFields) (old new : List Fields) → n ≡ zero → ReadsNext (Some fields) old new
     → with_front front (words_from n game old) ≡ Err (BadRow (game + 4))
 unfolding words_from
 word-over front n game (row.Four four) old new e reads = rw (reads, e) refl
 word-over front n game row.Other old new e reads = rw (reads.1, e) refl
 
--- without further words or rows the words are those read so far
+-- if no word and no row are left to be read, the words in all are those read so far
 pub words-done : (front : List ℕ) (n game : ℕ) → n ≡ zero → with_front front (words_from n game []) ≡ Ok front
 unfolding words_from
 words-done front n game e = rw e (ap (λ (t : List ℕ). Ok t) (append-nil front))

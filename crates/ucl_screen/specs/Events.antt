@@ -1,6 +1,4 @@
 -- The event that the fields of a row mean, and the board after a history.
--- A field is a list of bytes, an expected event number is that of the last event of the match that the reporter saw, and a history is a
--- list of accepted events, the oldest first.
 use Rattle.std.specs.Prelude.{◌≡◌, ℕ, ◌+◌, ◌++◌, List, [], ◌∷◌, length, Option, Some, option_and_then}
 use Rattle.ucl_word.specs.declared.event.EventCall.{EventCall}
 use Rattle.ucl_word.specs.Names.{kind_named}
@@ -52,7 +50,7 @@ pub record IsBoardAfter (history : List Entry) (words : List ℕ) (version : ℕ
   pub words_are : board_of history ≡ words
   pub version_is : version ≡ length history
 
--- what `each` gives for events that are entered in turn, the first of which is in this row and comes after this history
+-- the outputs of `each`, joined, for events entered one after the other, the first from row `row` on a board with this history
 unfoldable pub each_in_turn : {X : Type 0} → (ℕ → List Entry → NightEvent → List X) → ℕ → List Entry → List NightEvent → List X
 each_in_turn each row history [] = []
 each_in_turn each row history (event ∷ events) = each row history event ++ each_in_turn each (row + 1) (after_attempt history (attempt_of event)) events

@@ -1,6 +1,5 @@
 -- What reading an input to its end gives.
--- A source is where bytes are read from; contracts know the bytes that it has left, or nothing of them (None), whether it has failed, and
--- how many calls were made of it.
+-- Contracts know of a source the bytes that it has left, or nothing (None), whether it has failed, and how many calls were made of it.
 use Rattle.std.specs.Prelude.{◌≡◌, ℕ, ◌+◌, ◌≤◌, nat_le, Bool, true, false, if◌then◌else◌, List, length, Option, IfSome, Result, Ok, Err}
 use Rattle.ucl_screen.specs.declared.fault.InputFault.{InputFault}
 use Rattle.ucl_screen.specs.declared.fault.InputFault.TheVariants.{ReadFailed, OutOfMemory, TooLong}
@@ -14,9 +13,9 @@ max_bytes = 4194304
 abbrev pub whole_input : List ℕ → Result (List ℕ) InputFault
 whole_input bytes = if nat_le (length bytes) max_bytes then Ok bytes else Err TooLong
 
--- a read of a source to its end has this result: a value or a fault that the source's bytes mean, if they are known, where `Means` says
--- what bytes mean and `view` what of a value it speaks of; or the failure of the source after so many bytes; or memory ran out. `old` and
--- `new` are the bytes left before and after, and `failed` whether the source has failed
+-- a read of a source to its end has this result: what the source's bytes mean by `Means`, if they are known (`view` maps the code's value
+-- to the definition's); or the failure of the source after so many bytes; or memory ran out. `old` and `new` are the bytes left before and
+-- after, and `failed` whether the source has failed
 abbrev pub Reads : {V E : Type 0} → (List ℕ → Result E InputFault → Type 0) → (V → E) → Option (List ℕ) → Option (List ℕ) → Bool → Result V InputFault → Type 0
 Reads Means view old new failed (Ok v) = (failed ≡ false) × IfSome old (λ bytes. Means bytes (Ok (view v)))
 Reads Means view old new failed (Err (ReadFailed n)) = (failed ≡ true) × MovesCount old new n

@@ -1,5 +1,4 @@
--- Single lines of the screen, as lists of bytes.
--- A column is one byte. A mark says whether a club is sure to be among the first two: plus, minus if it is sure not to be, or blank.
+-- Single lines of the screen, as lists of bytes. A column is one byte.
 use Rattle.std.specs.Prelude.{ℕ, ◌-◌, ◌++◌, nat_le, if◌then◌else◌, List, [], ◌∷◌, length, replicate, codes, decimal}
 use Rattle.ucl_order.specs.declared.mark.Mark.{Mark}
 use Rattle.ucl_order.specs.declared.mark.Mark.TheVariants.{Plus, Minus, Blank}

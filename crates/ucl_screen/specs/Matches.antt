@@ -1,5 +1,4 @@
--- The matches of a board as text, a list of bytes.
--- A board is the list of twelve words that pack its match records. The line of a match has three parts: state, counts and clubs.
+-- The matches of a board as text. The line of a match has three parts: state, counts and clubs.
 use Rattle.std.specs.Prelude.{ℕ, ◌++◌, List, codes, decimal, flat_map}
 use Rattle.ucl_word.specs.declared.record.MatchRecord.{MatchRecord}
 use Rattle.ucl_word.specs.declared.record.State.{State}

@@ -1,6 +1,4 @@
 -- What an input means, a script or a sheet, and how results of the code compare with that.
--- A script is four clubs and the events that reporters enter; a sheet is four clubs and twelve words. A word is tested: it has to pack a
--- valid match record, in the present layout or in the first one, which had fewer bits for the event number.
 use Rattle.std.specs.Prelude.{◌≡◌, ⊤, ℕ, List, Result, Ok, Err}
 use Rattle.ucl_board.specs.Words.{read_words}
 use Rattle.ucl_screen.specs.declared.fault.InputFault.{InputFault}
@@ -32,12 +30,12 @@ Tested said (Err fault) = said ≡ Err fault
 abbrev pub MeansSheet : List ℕ → Result WrittenSheet InputFault → Type 0
 MeansSheet bytes sheet = Tested (sheet_of bytes) sheet
 
--- a fault that the code returns is `said`, the one of the definition; or memory ran out, which can come in place of any answer
+-- `fault`, which the code returns, is the fault that the definition gives, `said`; or memory ran out, which can come in place of any answer
 abbrev pub Refuses : {Y : Type 0} → InputFault → Result Y InputFault → Type 0
 Refuses OutOfMemory said = ⊤
 Refuses fault said = said ≡ Err fault
 
--- the code returns `said`, the result of the definition, or memory ran out; `view` takes a value of the code to one of the definition
+-- the code returns what the definition gives, `said`, or memory ran out; `view` maps a value of the code to one of the definition
 abbrev pub AnswersAsSaid : {X Y : Type 0} → (X → Y) → Result X InputFault → Result Y InputFault → Type 0
 AnswersAsSaid view (Ok x) said = said ≡ Ok (view x)
 AnswersAsSaid view (Err fault) said = Refuses fault said

@@ -13,11 +13,11 @@ use Rattle.ucl_screen.specs.declared.plain.FirstRow.TheVariants as first
 abbrev pub is_line_end : ℕ → Bool
 is_line_end b = (b == 13) || (b == 10)
 
--- whether a byte goes on with a field that began with no quote: it is no comma, carriage return or line feed
+-- whether a byte can belong to a field that began with no quote: it is no comma, carriage return or line feed
 abbrev pub is_joining : ℕ → Bool
 is_joining b = not (b == 44) && not (is_line_end b)
 
--- whether a byte goes on with a field in quotes
+-- whether a byte can belong to the content of a field in quotes: it is no quote
 abbrev pub is_quotable : ℕ → Bool
 is_quotable b = not (b == 34)
 
@@ -25,7 +25,8 @@ is_quotable b = not (b == 34)
 abbrev pub AtLineEnd : List ℕ → Type 0
 AtLineEnd text = is_line_end (get_or text 0 10) ≡ true
 
--- a text begins with this field of a row, and `rest` follows, in which a comma would end the field, and an end of a line, or of the text, the row
+-- a text begins with this field of a row, and `rest` follows: `csv` has collected just the field there, a byte other than a quote acts
+-- as within a field, and the end of the text ends the row
 pub record BeginsWithField (text field rest : List ℕ) : Type 0 where
   pub state : State
   pub reads : (tail : List ℕ) (fields : Fields) → next_record default_config StartField fields [] (text ++ tail) ≡ next_record default_config state fields field (rest ++ tail)
@@ -36,7 +37,7 @@ pub record BeginsWithField (text field rest : List ℕ) : Type 0 where
 pub record IsFieldBefore (text field rest : List ℕ) : Type 0 where
   pub reads : (tail : List ℕ) (fields : Fields) → next_record default_config StartField fields [] (text ++ tail) ≡ next_record default_config StartField (fields ++ field ∷ []) [] (rest ++ tail)
 
--- a text begins with the last field of a row, and `rest` follows, with the end of the row's line
+-- a text begins with the last field of a row, and `rest` follows, which is empty or begins with the row's line end
 pub record IsLastField (text field rest : List ℕ) : Type 0 where
   pub at_end : AtLineEnd rest
   pub reads : (tail : List ℕ) (fields : Fields) → AtLineEnd tail → (p : Read) × (next_record default_config StartField fields [] (text ++ tail) ≡ Some p)
@@ -46,7 +47,8 @@ pub record IsLastField (text field rest : List ℕ) : Type 0 where
 pub record BeginsRow (text : List ℕ) (fields : Fields) (rest : List ℕ) : Type 0 where
   pub reads : (tail : List ℕ) → next_record default_config StartRecord [] [] (text ++ tail) ≡ next_record default_config StartField fields [] (rest ++ tail)
 
--- a text begins with this row, and `rest` follows, with the end of its line; so does the text with an end of a line behind it
+-- a text begins with this row, and `rest` follows, which is empty or begins with a line end; the same holds if a tail of this kind, empty
+-- or with a line end first, is appended to both
 pub record BeginsWithRow (text : List ℕ) (row : Fields) (rest : List ℕ) : Type 0 where
   pub at_end : AtLineEnd rest
   pub rows : (tail : List ℕ) → AtLineEnd tail → records default_config (text ++ tail) ≡ row ∷ records default_config (rest ++ tail)
@@ -55,7 +57,7 @@ pub record BeginsWithRow (text : List ℕ) (row : Fields) (rest : List ℕ) : Ty
 abbrev pub fields_of_four : FourFields → Fields
 fields_of_four f = f.first ∷ f.second ∷ f.third ∷ f.fourth ∷ []
 
--- what a text begins with: no row; one of four fields, and then its rest; one of another number of fields; or what only `csv` can read
+-- what a text begins with: no row; a row of four fields, then `rest`; a row of more or fewer fields; `Unread`, left to `csv`, says nothing
 abbrev pub IsFirstRow : FirstRow → List ℕ → Type 0
 IsFirstRow first.None text = (tail : List ℕ) → records default_config (text ++ tail) ≡ records default_config tail
 IsFirstRow (first.Four four rest) text = BeginsWithRow text (fields_of_four (four_seen four)) rest.now

@@ -1,5 +1,4 @@
--- The rows of an input, which are its comma-separated records, and what a reader of them has left.
--- A row is the list of its fields, and a field is a list of bytes.
+-- The rows of an input, and what a reader of them has left. A row is the list of its fields, and a field is a list of bytes.
 use Rattle.std.specs.Prelude.{◌≡◌, ℕ, ◌+◌, Bool, true, false, List, [], ◌∷◌, length, Option, Some, None}
 use Rattle.std.specs.Borrow.{Bor}
 use Rattle.csv.specs.Machine.{ends_at_end}

@@ -12,7 +12,7 @@ abbrev pub rows_ahead : Rows → List Fields
 rows_ahead (Plain text) = rows_of text.now
 rows_ahead (Csv reader) = rows_left reader
 
--- rows can be read
+-- rows can be read on: of a plain text always, and by a reader of `csv` if it is between two rows and has not failed
 abbrev pub IsOpen : Rows → Type 0
 IsOpen (Plain text) = ⊤
 IsOpen (Csv reader) = IsReading reader

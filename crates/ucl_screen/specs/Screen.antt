@@ -1,5 +1,4 @@
 -- The screen of a board, a list of bytes.
--- A board is the list of twelve words that pack its match records, a roster is the list of the four clubs, a profile a rule of tie-breaks.
 use Rattle.std.specs.Prelude.{ℕ, ◌≤◌, ◌&&◌, ◌++◌, nat_le, if◌then◌else◌, List, [], ◌∷◌, Option, Some, None, codes, count_by, flat_map}
 use Rattle.ucl_word.specs.Rules.{is_in_play}
 use Rattle.ucl_word.specs.Layout.{record_at}

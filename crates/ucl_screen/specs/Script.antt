@@ -1,5 +1,5 @@
--- What the rows of an input mean: rows 1 to 4 are clubs, and then come the events of a script or the match words of a sheet.
--- A row is a list of fields, a field or a name is a list of bytes. A match word is 64 bits; whether they pack a match is tested later.
+-- What the rows of an input mean: rows 1 to 4 are clubs, and then come the events of a script or the match words of a sheet. Whether a word
+-- packs a match is tested later.
 use Rattle.std.specs.Prelude.{⊤, ℕ, zero, suc, ◌+◌, ◌==◌, ◌&&◌, if◌then◌else◌, List, [], ◌∷◌, length, codes, Option, Some, None, option_map, option_and_then, Result}
 use Rattle.std.specs.Prelude.{Ok, Err}
 use Rattle.std.specs.Str.{bytes_eq}
@@ -18,7 +18,7 @@ abbrev pub ◌>>=◌ : {A B : Type 0} → Result A InputFault → (A → Result 
 (Ok x) >>= f = f x
 (Err fault) >>= f = Err fault
 
--- what `says` makes of the four fields of a row; None if the row has more or fewer, or if it makes nothing of them
+-- what `says` parses from the four fields of a row; None if the row has more or fewer fields, or `says` gives None
 abbrev pub said_by : {A : Type 0} → (FourFields → Option A) → Fields → Option A
 said_by says fields = option_and_then says (four_of fields)
 

@@ -1,5 +1,4 @@
-//! Faults of an input: why it is refused, or was not read. An input is a script, which is four rows of clubs and a row for each event, or a
-//! sheet, which is four rows of clubs and twelve rows of match words. A source is where its bytes are read from.
+//! Faults of an input, a script or a sheet: why it is refused, or was not read.
 
 ghost use Rattle.std.specs.Prelude.{◌≡◌, Some};
 ghost use Rattle.ucl_screen.specs.declared.fault.InputFault.TheVariants.{OutOfMemory};

@@ -1,5 +1,5 @@
 //! Single lines of the screen; the whole screen is in `text`. A function that writes appends to `out`, and fails only if an allocation is
-//! refused. A column is one byte. A mark says whether a club is sure to be among the first two, or sure not to be.
+//! refused. A column is one byte.
 
 ghost use Rattle.std.specs.Prelude.{◌≡◌, ◌++◌, ◌≤◌, replicate, OnOk, string_bytes, decimal};
 ghost use Rattle.ucl_screen.specs.Lines.{header, place_line, mark_text, left, right, zeros_before, difference_text};

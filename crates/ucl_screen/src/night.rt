@@ -1,5 +1,4 @@
-//! A script as a value: the four clubs of a group, and the events that reporters enter. How it is read is in `reading`. A night is a run of
-//! a script. An expected event number is that of the last event of the match that the reporter saw.
+//! A script as a value: the four clubs of a group, and the events that reporters enter. How it is read is in `reading`.
 
 use ucl_order::Roster;
 use ucl_word::{EventCall, ReporterNo};

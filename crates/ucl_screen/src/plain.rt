@@ -1,6 +1,5 @@
-//! The first row of a text, read where it lies. The crate `csv` has to read it only if one of its fields begins with a quote and has another
-//! one within, or something between its last quote and the comma behind it. In contracts `AtLineEnd` says that a text is empty or begins
-//! with an end of a line, which is a carriage return or a line feed.
+//! The first row of a text, read where it lies. The crate `csv` has to read it only if one of its fields begins with a quote and has
+//! another one within, or something between its last quote and the comma behind it.
 
 ghost use Rattle.std.specs.Prelude.{◌≡◌, ◌==◌, ◌<◌, ◌≤◌, ◌+◌, ◌++◌, IfSome, List, ℕ, false, get_or, length, take, true};
 ghost use Rattle.std.specs.List.{list_all};
@@ -23,7 +22,7 @@ pub enum FirstRow<'a> {
     Unread,
 }
 
-/// Returns whether a text begins with a byte, which is not 0.
+/// Returns whether a text begins with this byte, which must not be 0.
 fn begins_with(text: &[u8], byte: u8) -> bool
     requires { 0 < byte }
     ensures { result ≡ (get_or text.now 0 0 == byte) }
@@ -31,7 +30,7 @@ fn begins_with(text: &[u8], byte: u8) -> bool
     !text.is_empty() && text[0] == byte
 }
 
-/// Returns whether a byte goes on with a field that began with no quote.
+/// Returns whether a byte can belong to a field that began with no quote: it is no comma, carriage return or line feed.
 fn is_joining(b: u8) -> bool
     ensures { result ≡ is_joining b }
 {
@@ -65,7 +64,7 @@ fn quoted_length(text: &[u8]) -> usize
     text.len()
 }
 
-/// Returns the field that a text begins with and what follows it, or `None` if it is a quote that is not closed.
+/// Returns the field that a text begins with and what follows it, or `None` if the field begins with a quote and no quote closes it.
 fn field(text: &[u8]) -> Option<(&[u8], &[u8])>
     ensures begins { IfSome result (λ p. BeginsWithField text.now p.0.now p.1.now) }
     ensures shorter { IfSome result (λ p. length p.1.now ≤ length text.now) }
@@ -83,7 +82,7 @@ fn field(text: &[u8]) -> Option<(&[u8], &[u8])>
     }
 }
 
-/// Returns the field that a text begins with and what follows the comma behind it, or `None` if no comma is seen to end it.
+/// Returns the field that a text begins with and what follows the comma behind it, or `None` if it is not closed or no comma is behind it.
 fn field_before(text: &[u8]) -> Option<(&[u8], &[u8])>
     ensures before { IfSome result (λ p. IsFieldBefore text.now p.0.now p.1.now) }
     ensures shorter { IfSome result (λ p. length p.1.now < length text.now) }
@@ -110,7 +109,7 @@ fn at_line_end(text: &[u8]) -> bool
     text.is_empty() || is_line_end(text[0])
 }
 
-/// Returns the field that a text begins with and what follows it, or `None` if neither the text nor a line is seen to end there.
+/// Returns the field that a text begins with and what follows it, or `None` if it is not closed or neither a line nor the text ends there.
 fn last_field(text: &[u8]) -> Option<(&[u8], &[u8])>
     ensures { IfSome result (λ p. IsLastField text.now p.0.now p.1.now) }
 {
@@ -122,7 +121,7 @@ fn last_field(text: &[u8]) -> Option<(&[u8], &[u8])>
     }
 }
 
-/// Returns the fields of the row of four that a text begins with and what follows it, or `None` if no such row is seen.
+/// Returns the four fields of the row that a text begins with, and what follows it; `None` if it has not four, or only `csv` can read it.
 fn four_before(text: &[u8]) -> Option<(Four<'_>, &[u8])>
     requires { is_line_end (get_or text.now 0 10) ≡ false }
     ensures { IfSome result (λ p. BeginsWithRow text.now (fields_of_four (four_seen p.0)) p.1.now) }
@@ -140,7 +139,7 @@ fn four_before(text: &[u8]) -> Option<(Four<'_>, &[u8])>
     Some((four, rest))
 }
 
-/// Returns how many fields the row has that a text begins with, or `None` if that is not seen.
+/// Returns how many fields the row has that a text begins with, or `None` if only `csv` can read it.
 fn field_count(text: &[u8]) -> Option<usize>
     requires { is_line_end (get_or text.now 0 10) ≡ false }
     ensures { IfSome result (λ count. (row : Fields) × (rest : List ℕ) × BeginsWithRow text.now row rest
@@ -170,7 +169,7 @@ fn ends_length(text: &[u8]) -> usize
     text.len()
 }
 
-/// Returns what a text begins with.
+/// Returns what a text begins with: no row, a row of four fields, a row of more or fewer, or a row that only `csv` can read.
 pub fn first_row(text: &[u8]) -> FirstRow<'_>
     ensures { IsFirstRow result text.now }
 {

@@ -1,7 +1,5 @@
-//! Scripts and sheets, read from a source of bytes. A script is four rows of clubs and a row for each event that a reporter enters; a sheet
-//! is four rows of clubs and twelve rows of match words, each a match record packed into 64 bits. A row is a record of the crate `csv`. In
-//! contracts `gives` says that the result is the defined one unless memory ran out, and `kinds` which faults there can be: `BadRow`,
-//! `BadRoster`, `TooLong` and `OutOfMemory`.
+//! Scripts and sheets, read from a source. In contracts `gives` says that the result is the defined one unless memory ran out, and `kinds`
+//! which faults there can be: `BadRow`, `BadRoster`, `TooLong` and `OutOfMemory`.
 
 ghost use Rattle.std.specs.Prelude.{◌≡◌, ◌+◌, ◌≤◌, length, Some, option_map, IfErr, IfOk, OnOk};
 ghost use Rattle.ucl_order.specs.Roster.{club_lent, club_seen};
@@ -109,7 +107,8 @@ pub fn event_of_fields(fields: &Four<'_>) -> Option<NightEvent>
     Some(NightEvent { reporter, call })
 }
 
-/// Reads the rows that are left, which are those of a script from row 5 on, and parses their events. `BadRow` with the first that is none.
+/// Reads the rows that are left, which are those of a script from row 5 on, and parses their events. `BadRow` with the first row that is
+/// no event.
 fn events_at(alloc: Global, rows: &mut Rows<'_>) -> Result<Vec<NightEvent>, InputFault>
     requires open { IsOpen rows.old }
     requires few { length (rows_ahead rows.old) ≤ max_bytes }

@@ -1,5 +1,5 @@
-//! The rows of an input, which are the records that the crate `csv` reads of it, one after the other. A row has fields, which are bytes.
-//! In contracts `rows_left` is the list of the rows that a reader of `csv` has not read yet, and `rows_ahead` that of the rows of an input.
+//! The rows of an input, as the crate `csv` reads its records. In contracts `rows_left` is the list of the rows that a reader of `csv` has
+//! not read yet, and `rows_ahead` that of the rows of an input.
 
 ghost use Rattle.std.specs.Prelude.{◌≡◌, ◌≤◌, length, option_map, IfOk, IsSome, true};
 ghost use Rattle.csv.specs.Records.{fields_of};
@@ -106,7 +106,8 @@ pub(crate) enum Rows<'a> {
 }
 
 impl<'a> Rows<'a> {
-    /// Reads the first row of a text as `next` does, by `csv`, which reads the rows from now on. A reader takes many bytes of the stack.
+    /// Reads the first row of a text by a new reader of `csv`, which reads the later rows too from then on; `None` if there is no row. It is kept
+    /// out of line, since a reader takes many bytes of the stack. Open are rows of which the next can be read.
     #[cold]
     #[inline(never)]
     fn first_by_csv<'r>(

@@ -1,5 +1,4 @@
-//! A sheet as a value: a saved board, with the four clubs of its group. A match word packs the record of a match into 64 bits, and twelve
-//! are a board. How a sheet is read is in `reading`.
+//! A sheet as a value. How it is read is in `reading`.
 
 use ucl_board::Board;
 use ucl_order::Roster;

@@ -1,5 +1,4 @@
-//! The screen of a board: the table of a group as text. A function that writes appends to `out`; it fails only if an allocation is refused.
-//! A profile says by what clubs that are level on points are compared in the matches among them.
+//! The screen of a board as text. A function that writes appends to `out`; it fails only if an allocation is refused.
 
 ghost use Rattle.std.specs.Prelude.{◌≡◌, ◌↔◌, ◌++◌, IsTrue, IfOk, IfSome, OnOk, true, All, flat_map, string_bytes};
 ghost use Rattle.ucl_order.specs.Roster.{is_name};
@@ -49,7 +48,7 @@ pub fn matches_in_play(board: &Board) -> u8
     count
 }
 
-/// Returns the name of a club, 1 to 20 bytes of printed ASCII, as text.
+/// Returns the name of a club, 1 to 20 bytes of printable ASCII, as text.
 #[tactic(auto, using(crate::proofs::Columns::name_text))]
 pub fn text_of(name: &[u8]) -> &str
     requires { is_name name.now ≡ true }

@@ -1,5 +1,5 @@
-//! A source, which is where bytes are read from, read to its end. In contracts `left` are the bytes that it has left, if they are known,
-//! `calls` counts the calls made of it, and `failed` says whether it has failed.
+//! A source, read to its end. In contracts `left` are the bytes that it has left, if they are known, `calls` counts the calls made of it,
+//! and `failed` says whether it has failed.
 
 ghost use Rattle.std.specs.Prelude.{◌≡◌, ◌+◌, ◌≤◌, length, IfOk};
 ghost use Rattle.ucl_screen.specs.Input.{Reads, CallsRead, max_bytes, whole_input};

@@ -39,7 +39,8 @@ pub follows_at : (h : List Entry) (low high : ℕ) (ms : List Access) (k : ℕ) 
 follows_at h low high (n ∷ ms) (suc k) m f e = let t = follows_at h n.at high ms k m f.2 e in let a = f.0 in let b = t.0 in (omega arith, t.1, t.2)
 follows_at h low high ms k m f e = search (arith, none-some, same_Some, follows_ends)
 
--- two parts, the first of which ends at the place of its last access
+-- accesses in two parts, `ms` and then `ns`, follow a history part by part: `ms` up to the length `middle`, at which its last access was
+-- made, and `ns` from there
 pub record Parts (h : List Entry) (low high : ℕ) (ms ns : List Access) : Type 0 where
   pub middle : ℕ
   pub former : Follows h low ms middle
@@ -60,11 +61,11 @@ pub collect_more : (kind : AccessKind) (words : List ℕ) (ms : List Access) (m 
     → IsCollect kind words (ms ++ m ∷ [])
 collect_more kind words ms m c does found k x e = search (arith, at_either)
 
--- the words past the collect may change
+-- accesses that are a collect of a list of words, or the beginning of one, are still one if a word of the list past them is set to another
 pub collect_set : (kind : AccessKind) (words : List ℕ) (ms : List Access) (i n : ℕ) → length ms ≤ i → IsCollect kind words ms → IsCollect kind (slice_set words i n) ms
 collect_set kind words ms i n le c k m e = let t = c k m e in let l = at_below ms k m e in (t.0, t.1 ∙ sym (get_or-set_other words i k n 0 (λ z. omega arith)))
 
--- the last Second of an unclean try was overtaken by an entry since the First of its match
+-- in an unclean try the last Second, which found another word, comes when the history is longer than at the First of the same match
 overtaken : (h : List Entry) (low high : ℕ) (ms : List Access) → Follows h low ms high → (try : IsUnclean ms) (first : Access)
     → slice_get try.firsts (length try.broken.equal) ≡ Some first
     → (low ≤ first.at) × (first.at < try.broken.last.at) × (try.broken.last.at ≤ high)
@@ -81,7 +82,7 @@ overtaken h low high ms f try first at =
 pub broken_later : UncleanTriesSeeMore
 broken_later h low high ms f try first at = (overtaken h low high ms f try first at).1
 
--- an unclean try has at most 24 accesses, and was overtaken by an entry
+-- an unclean try has at most 24 accesses, and the history grew while they were made
 pub unclean_try : (h : List Entry) (low high : ℕ) (ms : List Access) → Follows h low ms high → IsUnclean ms → (low < high) × (length ms ≤ 24)
 unclean_try h low high ms f try =
     let first = get_some try.firsts (length try.broken.equal) (omega arith) in
@@ -100,7 +101,7 @@ tries_bound h low high (ms ∷ tries) f all =
 pub tries_few : UncleanTriesAreFew
 tries_few h low high tries f all = (tries_bound h low high tries f all).0
 
--- what a clean try shows
+-- what a clean try shows: its reading is the board after as many entries as its version says, from `low` to `high`; it has 24 accesses
 pub record Shows (h : List Entry) (low high : ℕ) (reading : Reading) (ms : List Access) : Type 0 where
   pub board : reading.board ≡ board_of (take reading.version h)
   pub within : (low ≤ reading.version) × (reading.version ≤ high)
@@ -125,7 +126,8 @@ clean_shows h low high reading ms legal f clean =
     let high_ok = follows_ends h parts.middle high clean.seconds parts.latter in
     search (arith, board_from, length-append, parts.middle, reading.board, clean.twelve.0, clean.accesses, clean.firsts, clean.seconds)
 
--- a reading is the board at one length of the history that its accesses follow, within the bounds of its tries
+-- if the accesses of a reading follow a legal history, the reading is the board after a prefix of it, as long as its version says; it has
+-- no more unclean tries than entries came meanwhile, and at most 24 loads for each try
 pub reading_whole : ReadingsAreSnapshots
 reading_whole h low high reading ms legal le f accesses =
     let parts = follows_parts h low high (accesses_of accesses.tries) accesses.last (subst (λ (z : List Access). Follows h low z high) accesses.accesses f) in
@@ -136,15 +138,15 @@ reading_whole h low high reading ms legal le f accesses =
     let long = (versions h legal).1 in
     search (arith, follows_parts, tries_bound, clean_shows, versions, length-append)
 
--- if a reply accepts an event, the rules refuse it for nothing
+-- if the reply `answer n o` accepts an event, then o, the refusal by the rules, is None
 pub none_of_ok : (n : ℕ) (o : Option Refusal) → IsOk (answer n o) → o ≡ None
 none_of_ok n o is = search (arith, false≢true)
 
--- the record of the word that an access of a match found
+-- the word that an access found, after entries of a legal history, holds the record that its match had then
 pub found_record : (h : List Entry) (m : Access) (game : ℕ) → IsLegal h → IsFoundIn h m → m.game ≡ game → record_at m.found ≡ match_after (take m.at h) game
 found_record h m game legal found is = ap record_at (found ∙ ap (λ (z : ℕ). word_of (match_after (take m.at h) z)) is) ∙ read_back (take m.at h) game (legal_take h m.at legal)
 
--- the reply to a report is the sequential one at the place of its last access
+-- if the accesses of a report follow a legal history, its reply is that of the board of one thread after the entries before its last access
 pub report_whole : ReportsAreSequential
 report_whole h low high now call (Ok reply) ms legal f won =
     let swapped : Access = access Swap call.game won.looked won.places.1 won.before in

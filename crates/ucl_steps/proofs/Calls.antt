@@ -18,7 +18,8 @@ IsSequential history k (Reporter r) (Event e) (Refused refusal) = sequential_rep
 IsSequential history k c Reading (Copied reading) = (reading.board ≡ board_of (take k history)) × (reading.version ≡ k)
 IsSequential history k c call reply = ⊥
 
--- k, a length of the history, can be the point of a call: not before its beginning, and before its end; if it is not accepted, also at its end
+-- k can be the point of a call with this reply, in a history of `len` entries: k is not before the call's beginning, and before its end if
+-- the call was accepted, else not after its end
 abbrev pub LiesWithin : CallRecord → ℕ → Reply → ℕ → Type 0
 LiesWithin c k (Accepted a) len = (c.begun ≤ k) × (k < len) × IfSome c.ended (λ ended. k < ended)
 LiesWithin c k reply len = (c.begun ≤ k) × (k ≤ len) × IfSome c.ended (λ ended. k ≤ ended)
@@ -86,7 +87,8 @@ in_call (Wanting k e) = Some k
 in_call (Within k held) = Some k
 in_call (Answered k) = Some k
 
--- what a caller holds says truly how far its call a is
+-- call a is as far as its caller's state says: it still wants to enter its event, offers a new word, collects or checks words that its
+-- matches had, or has its reply
 abbrev pub Sees : List Entry → CallRecord → CallerState → Type 0
 Sees h a Idle = Unit {0}
 Sees h a (Wanting k e) = Asks a e
@@ -96,7 +98,7 @@ Sees h a (Within k (Collecting words)) = Collects h a words
 Sees h a (Within k (Checking words checked point)) = Checks h a words checked point
 Sees h a (Answered k) = IsSome a.reply
 
--- the caller is in this call, and what it holds says how far it is
+-- caller c, with state x, is in call k: the call is its own, has not ended, and is as far as x says
 pub record Knows (h : List Entry) (calls : List CallRecord) (c : Caller) (x : CallerState) (k : ℕ) : Type 0 where
   pub call : CallRecord
   pub at : slice_get calls k ≡ Some call
@@ -134,15 +136,15 @@ module _ (h h' : List Entry) (b : IsPrefix h h') where
   pub explained_later : (c : CallRecord) → Explains h c c.point c.reply → Explains h' c c.point c.reply
   explained_later c = explained_at c c.point c.reply
 
--- the point and the reply of a call are decided
+-- a call has its point, which is k, and its reply, which is this one
 abbrev pub IsDecided : CallRecord → ℕ → Reply → Type 0
 IsDecided call k reply = (call.point ≡ Some k) × (call.reply ≡ Some reply)
 
--- a call that has ended has its reply, and it has a point exactly if it has one
+-- a call with this point and reply, if any, has a reply if it has ended, and has a point exactly if it has a reply
 abbrev IsWhole : CallRecord → Option ℕ → Option Reply → Type 0
 IsWhole c point reply = (IsSome c.ended → IsSome reply) × (IsSome point ↔ IsSome reply)
 
--- an explained call that has ended has its reply, and it has a point exactly if it has one
+-- a call that a history explains has a reply if it has ended, and has a point exactly if it has a reply
 whole_by : (history : List Entry) (c : CallRecord) (point : Option ℕ) (reply : Option Reply) → Explains history c point reply → IsWhole c point reply
 whole_by history c point reply s = search (arith, false≢true)
 
@@ -161,17 +163,19 @@ module _ (history : List Entry) (c : CallRecord) (explained : Explains history c
   pub decided : (k : ℕ) (reply : Reply) → IsDecided c k reply → Explains history c (Some k) (Some reply)
   decided k reply is = subst (λ (p : Option ℕ). Explains history c p (Some reply)) is.0 (subst (λ (r : Option Reply). Explains history c c.point r) is.1 explained)
 
--- the reply to a call is that of the board of one thread at its point
+-- the reply to a call is that of the board of one thread at its point; if an event was accepted, its entry is at that place of the history
 abbrev pub IsSettled : List Entry → FinishedCall → Type 0
 IsSettled history c = (c.point ≤ length history) × IsSequential history c.point (Reporter c.number) c.call c.reply
 
--- what is sequential for a caller is so for the reporter with the caller's number, which is 0 for a reader
+-- if a reply to a call of a caller is that of the board of one thread after k entries (IsSequential), it is so too for the reporter with
+-- the caller's number, which is 0 for a reader
 pub by_number : (h : List Entry) (k : ℕ) (c : Caller) (call : Call) (reply : Reply) → IsSequential h k c call reply
     → IsSequential h k (Reporter (caller_number c)) call reply
 by_number h k (Reporter number) call reply s = s
 by_number h k (Reader number) call reply s = search arith
 
--- a point that lies within a call is not before its beginning, nor after its end, and before its end if the event was accepted
+-- if k can be the point of a call (LiesWithin), it is not before the call's beginning, and not after `ended`, its end (n, the length of the
+-- history, may stand for it); and if the event was accepted, k is before `ended`
 pub lies : (c : CallRecord) (k n ended : ℕ) (reply : Reply) → LiesWithin c k reply n → (c.ended ≡ Some ended) ⊎ (ended ≡ n)
     → (c.begun ≤ k) × (k ≤ ended) × (accepts reply ≡ true → k < ended)
 lies c k n ended reply s is = search (arith, false≢true)
@@ -186,7 +190,8 @@ made_by : (h : List Entry) (c : FinishedCall) → c.point < c.ended → (call : 
     → IsSequential h c.point (Reporter c.number) call reply → MakesEntry h c
 made_by h c end call reply is made s = search (arith, false≢true)
 
--- a settled call that began by its point, and ended after it if it was accepted and else not before it, is explained
+-- a history explains a call that has the reply of the board of one thread at its point (IsSettled), if the point is not before the call's
+-- beginning, and not after its end, and before its end if the call was accepted
 pub explained_by : (h : List Entry) (c : FinishedCall) → IsSettled h c → c.first ≤ c.last → (c.begun ≤ c.point) × (c.point ≤ c.ended) × (c.ended ≤ length h)
     → (accepts c.reply ≡ true → c.point < c.ended) → IsExplained h c
 explained_by h c s turn within by_end = record {
@@ -208,7 +213,7 @@ version_is h c read s copied = ap (λ (r : board.Reading). r.version) (copied_by
 
 -- calls that are explained, of which those that end before others begin have all their entries by then, are linearizable if each entry is of one
 
--- of two explained calls the first comes before the second, if its end, in steps and in entries, is before the second's beginning
+-- of two calls that a history explains, a comes before b if a ended before b began, by their steps, with no more entries than b began with
 goes_before : (h : List Entry) (a b : FinishedCall) → IsExplained h a → IsExplained h b → a.last < b.first → a.ended ≤ b.begun → GoesBefore a b
 goes_before h a b x y turn le = grind arith
 

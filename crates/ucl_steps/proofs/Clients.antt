@@ -79,11 +79,11 @@ enlist_none h number found = search arith
 outcome_number : (o : Outcome) (y : Taken) (d : ClientState) → (with_outcome o y d).number ≡ d.number
 outcome_number o y d = search arith
 
--- after a step a pass has the number that the step's target makes of the one it had
+-- after a step a pass has the number that the step's target gives it: an enlistment that found n reporters gives n + 1, others leave it
 pub number_after : (target : Target) (y : Taken) (d : ClientState) → (with_target target y d).number ≡ number_by target d.number
 number_after target y d = search (arith, outcome_number)
 
--- after steps from a state with number n a pass has the number that their targets make of n, one after the other
+-- from number n on, the steps of a pass change its number in turn: an enlistment that found m reporters sets it to m + 1, others leave it
 number_from : (d : ClientState) (n : ℕ) → d.number ≡ n → (steps : List Taken)
     → (fold with_step d steps).number ≡ fold (λ (number : ℕ) (x : Taken). number_by x.target number) n steps
 number_from d n is [] = is
@@ -93,11 +93,11 @@ number_from d n is (x ∷ steps) = number_from (with_step d x) (number_by x.targ
 pub client_number : (steps : List Taken) → (client_of steps).number ≡ number_of steps
 client_number steps = number_from new_client 0 refl steps
 
--- in a log with these facts no pass has a greater number than there are enlisted reporters
+-- in a log whose numbers were given in order (LogFacts) no pass has a greater number than there are enlisted reporters
 pub numbers_low : (log : Log) → LogFacts log → (seat : ℕ) → (client_at seat log).number ≤ enlisted_by log
 numbers_low log facts seat = let low = facts.low seat in let is = client_number (taken_by seat log) in omega arith
 
--- in a log with these facts two passes that have one number, which is not 0, have one seat
+-- in a log whose numbers were given in order (LogFacts) two passes with the same number, which is not 0, have the same seat
 pub numbers_apart : (log : Log) → LogFacts log → (i j : ℕ) → 0 < (client_at i log).number → (client_at i log).number ≡ (client_at j log).number → i ≡ j
 numbers_apart log facts i j pos same = let n = client_number (taken_by i log) in let m = client_number (taken_by j log) in facts.apart i j (omega arith) (omega arith)
 
@@ -117,7 +117,7 @@ collecting words is = cc
 pub checking : (words : List ℕ) (checked point : ℕ) → Checking words checked point ≢ NoCall
 checking words checked point is = cc
 
--- the entry of a step fits this outcome: there is one exactly if an event is accepted, now
+-- a step with this outcome has an entry exactly if the outcome is that an event is accepted; the call's point is then `now`
 abbrev AddsBy : Pending → ℕ → Option Entry → Outcome → Type 0
 AddsBy held now entry (Answers (Accepted accepted)) = ((e : Entry) × (entry ≡ Some e)) × (point_of held now ≡ now)
 AddsBy held now entry outcome = entry ≡ None
@@ -141,30 +141,33 @@ adds_by number (Checking words checked point) (Match Second game found) now = by
     by a b = search arith
 adds_by number h t now = search arith
 
--- a reading that has its words noted its point after its first step, and not in the future
+-- if a pass is in the second collect of a reading, which began at place `first` of the log, the point that it keeps lies between that step
+-- and the end of the log
 abbrev Noted : Log → ℕ → Pending → Type 0
 Noted log first (Checking words checked point) = (entries_before log first ≤ point) × (point ≤ length (history_of log))
 Noted log first held = Unit {0}
 
--- the point that a reading noted by a step with this outcome comes after its first step, and not in the future
+-- if a reading, which began at place `first` of the log, goes on with its second collect after this outcome, the point that it keeps lies
+-- between that step and the end of the log
 abbrev NotedBy : Log → ℕ → Outcome → Type 0
 NotedBy log first (GoesOn held) = Noted log first held
 NotedBy log first (Answers reply) = Unit {0}
 
--- the point that a reading notes by a step lies between its first step and the present, if `now` does, and the point noted before
+-- after a step with `now` entries before it, a reading in its second collect keeps a point between its first step and the end of the log,
+-- if `now` lies there, and so did the point that it kept before, if any
 noted_by : (log : Log) (first place number now : ℕ) (h : Pending) (t : Target) → entries_before log (first_place h first place) ≤ now
     → now ≤ length (history_of log) → Noted log first h → NotedBy log (first_place h first place) (outcome number h t now)
 noted_by log first place number now h t low high s = search arith
 
--- all before the present step, and before the call under way, is before the call's first step
+-- a place `last` before a step, and before the first step of the call under way, if any, is before the first step of the step's call
 first_after : (h : Pending) (first place last : ℕ) → last < place → (h ≢ NoCall → last < first) → last < first_place h first place
 first_after h first place last now was = search (arith, holding, collecting, checking)
 
--- the first step of a call is no later than the present step
+-- the call of a step at `place` began no later than there
 first_low : (h : Pending) (first place : ℕ) → (h ≢ NoCall → first < place) → first_place h first place ≤ place
 first_low h first place was = search (arith, le_refl, holding, collecting, checking)
 
--- the entries before the first step of a call are as many as there were when the call began
+-- the length of the history that is kept as the beginning of a step's call is how many entries there were before the call's first step
 begun_by : (log : Log) (h : Pending) (begun first place now : ℕ) → now ≡ length (history_of log) → place ≡ length log
     → (h ≢ NoCall → begun ≡ entries_before log first) → first_place h begun now ≡ entries_before log (first_place h first place)
 begun_by log h begun first place now is here was = search (arith, holding, collecting, checking, entries_all)

@@ -53,15 +53,17 @@ module _ {X Y : Type 0} where
   map_unseen g zero f each (x ∷ xs) = ap (λ (z : Y). z ∷ map g xs) (each x)
   map_unseen g (suc k) f each (x ∷ xs) = ap (λ (z : List Y). g x ∷ z) (map_unseen g k f each xs)
 
--- an element that was set is there, and the others are as before
+-- an element of a list that is set to y is y then
 get_set_here : {X : Type 0} (xs : List X) (k : ℕ) (x y : X) → slice_get xs k ≡ Some x → slice_get (slice_set xs k y) k ≡ Some y
 get_set_here (z ∷ xs) (suc k) x y e = get_set_here xs k x y e
 get_set_here xs k x y e = search arith
 
+-- to set one element of a list leaves the others
 get_set_else : {X : Type 0} (xs : List X) (k i : ℕ) (y : X) → i ≢ k → slice_get (slice_set xs k y) i ≡ slice_get xs i
 get_set_else (z ∷ xs) (suc k) (suc i) y not = get_set_else xs k i y (λ is. not (ap suc is))
 get_set_else xs k i y not = search arith
 
+-- two callers are the same, or they are not
 pub same_caller : (c d : Caller) → (c ≡ d) ⊎ (c ≢ d)
 same_caller c d = search (arith, cases_eq)
 
@@ -73,7 +75,7 @@ held_here cs c x y e = search (arith, none-some, get_set_here)
 pub held_else : (cs : Callers) (c d : Caller) (y x : CallerState) → held_by cs c ≡ Some x → d ≢ c → held_by (set_held y c cs) d ≡ held_by cs d
 held_else cs c d y x e not = search (arith, none-some, get_set_else)
 
--- an event that is accepted is expected at the number that its match has
+-- if the rules accept an event, the event number that it expects is the one that its match has
 pub number_expected : (m : MatchRecord) (expected : ℕ) (kind : Kind) → refusal_of m expected kind ≡ None → expected ≡ m.number
 number_expected m expected kind e = eqb-true expected m.number (not-false (expected == m.number) (accepts m expected kind e).current)
 
@@ -85,7 +87,7 @@ legal_snoc h e legal may = may_next MayFollow h e legal may
 pub number_is : (h : List Entry) (g : ℕ) → (match_after h g).number ≡ length (entries_of g h)
 number_is h g = number_of_count (entries_of g h)
 
--- after an entry that may come next in a legal history its match is as the rules say
+-- an entry that may come next in a legal history changes the record of its match as the rules say
 pub match_next : (h : List Entry) (e : Entry) → IsLegal h → MayFollow h e → match_after (h ++ e ∷ []) e.game ≡ after (match_after h e.game) e.reporter e.kind
 match_next h e legal may = search (arith, entries_same, record_next, legal_balanced, legal_match, legal_case, accepts)
 
@@ -93,7 +95,7 @@ match_next h e legal may = search (arith, entries_same, record_next, legal_balan
 pub read_back : (h : List Entry) (g : ℕ) → IsLegal h → record_at (word_of (match_after h g)) ≡ match_after h g
 read_back h g legal = record_back (match_after h g) (match_valid g h legal)
 
--- the word that an entry leaves has the next number
+-- after an entry that may come next in a legal history the word of its match has an event number one greater than before
 pub number_next : (h : List Entry) (e : Entry) → IsLegal h → MayFollow h e → (record_at (word_of (after (match_after h e.game) e.reporter e.kind))).number ≡ (match_after h e.game).number + 1
 number_next h e legal may = search (arith, match_next h e legal may, read_back, legal_snoc, after_number, e.game, e.reporter, e.kind)
 
@@ -114,6 +116,6 @@ board_get h k l = let e : k ≡ k + 1 - 1 = omega arith in ap (λ (z : ℕ). get
 pub board_next : (h : List Entry) (e : Entry) → IsLegal h → MayFollow h e → board_of (h ++ e ∷ []) ≡ slice_set (board_of h) (e.game - 1) (word_of (after (match_after h e.game) e.reporter e.kind))
 board_next h e legal may = low.board_next h e may.game ∙ ap (λ (m : MatchRecord). set (board_of h) (e.game - 1) (word_of m)) (match_next h e legal may)
 
--- the words of a board that are those of a history, one by one
+-- twelve words that are, one by one, those of the matches after a history are the board of the history
 pub board_from : (h : List Entry) (words : List ℕ) → length words ≡ 12 → ((k : ℕ) → k < 12 → get_or words k 0 ≡ word_of (match_after h (k + 1))) → words ≡ board_of h
 board_from h words twelve each = ext_get_or 0 words (board_of h) (twelve ∙ sym (board_length h)) (λ k l. each k (omega arith) ∙ sym (board_get h k (omega arith)))

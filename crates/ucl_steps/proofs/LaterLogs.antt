@@ -22,7 +22,8 @@ calls_stay log later seat k c p at =
     let is = ap client_of (taken_append seat log p.0) ∙ fold-append with_step new_client (taken_by seat log) (taken_by seat p.0) in
     subst (λ (l : Log). IsCall l seat k c) p.1 (subst (λ (d : ClientState). slice_get d.calls k ≡ Some c) (sym is) (steps_keep (taken_by seat p.0) (client_at seat log) k c at))
 
--- a call that began after all that its pass knew began after all of a log in which the pass took no more steps
+-- if a pass took no step of a log after `known`, the part that it knew, and a call of it began after that part, the call began after the
+-- whole log
 pub begins_after : (known log later : Log) (seat k : ℕ) (c : FinishedCall) → IsLog later → FollowsProtocol later → IsPrefix log later → IsPrefix known log
     → taken_by seat known ≡ taken_by seat log → IsCall later seat k c → length known ≤ c.first → length log ≤ c.first
 begins_after known log later seat k c is follows p q same at since = elim (cases_lt c.first (length log)) [

@@ -13,24 +13,25 @@ use Rattle.ucl_steps.proofs.Clients.{by_seat, client_number, count_none, enlist_
 use Rattle.ucl_steps.specs.ClientState.{ClientState, FollowsProtocol, IsNextFor, IsNextOfProtocol, call_answered, client_at, entry_by, next_game}
 use Rattle.ucl_steps.specs.ClientState.{outcome, with_outcome, with_step, with_target}
 
--- what a pass knows of the event that it holds: the rules accept it on the word that it found, and make of that the next one
+-- a reporter with this number may offer event e to a match: the rules accept e on the word `old`, which it found, and make `new` of that
 pub record Offers (number : ℕ) (e : EventCall) (old new : ℕ) : Type 0 where
   pub reporter : IsReporter number
   pub game : IsMatch e.game
   pub accepted : refusal_of (record_at old) e.expected e.kind ≡ None
   pub next : new ≡ word_of (after (record_at old) number e.kind)
 
--- what a pass with this number holds of an event is what it offered (Offers)
+-- if a pass with this number holds an event, the rules accept it on the word that the pass found, and make of that the word it is to put in
 abbrev pub Sees : ℕ → Pending → Type 0
 Sees number (Holding e old new) = Offers number e old new
 Sees number held = Unit {0}
 
--- the steps of a log are legal, and each pass holds of an event what it offered
+-- the steps of a log are legal, and if a pass holds an event, the rules accept it on the word that the pass found
 pub record IsSound (log : Log) : Type 0 where
   pub steps : HasLegalSteps log
   pub sees : (seat : ℕ) → Sees (client_at seat log).number (client_at seat log).held
 
--- the entry of an exchange may come next in the history
+-- if a Swap finds the word that is there, and the rules accept the pass's event on the word that it loaded, the entry that the Swap adds,
+-- if any, may come next in the history
 swap_adds : (log : Log) (number : ℕ) (h : Pending) (game found : ℕ) → IsLegal (history_of log) → Sees number h
     → found ≡ word_of (match_after (history_of log) game) → game ≡ next_game Swap h → MayAdd (history_of log) number (entry_by number h (Match Swap game found))
 swap_adds log number (Holding e old new) game found legal o there next = by (found == old) refl
@@ -50,17 +51,17 @@ may_add : (log : Log) (d : ClientState) (t : Target) → IsLegal (history_of log
 may_add log d (Match Swap game found) legal sees there next = swap_adds log d.number d.held game found legal sees there.1 next
 may_add log d t legal sees there next = search (arith, look_none, first_none, second_none, count_none, enlist_none)
 
--- what a pass holds of an event after this outcome is what it offered
+-- if a pass holds an event after this outcome, the rules accept it on the word found, and make of that the word it is to put in
 abbrev SeesBy : ℕ → Outcome → Type 0
 SeesBy number (GoesOn held) = Sees number held
 SeesBy number (Answers reply) = Unit {0}
 
--- a report is a reporter's, of a match
+-- if a step on this target is a Look, the load of a report, its pass is a reporter's, and the event is of one of the twelve matches
 abbrev IsAsked : ℕ → Target → Type 0
 IsAsked number (Match (Look e) game found) = IsReporter number × IsMatch e.game
 IsAsked number target = Unit {0}
 
--- what a pass holds of an event after a step is what it offered, if what it held before is
+-- if the rules accept the event that a pass holds on the word that it found, they do so too with the event that it holds after a step
 sees_by : (number : ℕ) (h : Pending) (t : Target) (now : ℕ) → Sees number h → IsAsked number t → SeesBy number (outcome number h t now)
 sees_by number h (Match (Look e) game found) now sees asked = by (refusal_of (record_at found) e.expected e.kind) refl
   where
@@ -77,22 +78,22 @@ sees_by number (Checking words checked point) (Match Second game found) now sees
     by a b = search arith
 sees_by number h t now sees asked = search arith
 
--- if a pass holds what it offered by an outcome, it does so in its state after that outcome
+-- if the rules accept the event that is held by an outcome on the word found, they do so too with the event in the pass's state after it
 sees_then : (o : Outcome) (y : Taken) (d : ClientState) → SeesBy d.number o → Sees (with_outcome o y d).number (with_outcome o y d).held
 sees_then o y d sees = search arith
 
--- a step on a match word that there is, and that the protocol lets come next, is a reporter's and of a match if it is a Look
+-- a Look that finds what is there, and that the protocol lets come next, is a reporter's, and its event is of one of the twelve matches
 is_asked : (log : Log) (d : ClientState) (kind : AccessKind) (game found : ℕ) → IsThere log (Match kind game found) → IsNextFor d (Match kind game found)
     → IsAsked d.number (Match kind game found)
 is_asked log d kind game found there next = search arith
 
--- a pass that holds what it offered does so after each step that the protocol lets come next
+-- if the rules accept the event that a pass holds on the word that it found, they do so after each step that the protocol lets come next
 sees_next : (log : Log) (y : Taken) (d : ClientState) (t : Target) → Sees d.number d.held → IsThere log t → IsNextFor d t
     → Sees (with_target t y d).number (with_target t y d).held
 sees_next log y d (Match kind game found) sees there next = search (arith, sees_then, sees_by, is_asked log d kind game found there next)
 sees_next log y d t sees there next = search (arith, sees_then, sees_by)
 
--- a log is sound with one step more
+-- if the steps of a log are legal, and each held event is accepted by the rules (IsSound), this is so with one more step of the protocol
 sound_next : (log : Log) (x : Logged) → MayBeTaken log x → IsNextOfProtocol log x → IsSound log → IsSound (log ++ x ∷ [])
 sound_next log x may next was =
     let d = client_at x.seat log in
@@ -108,14 +109,15 @@ sound_next log x may next was =
           (sees_next log x.step d x.step.target (was.sees x.seat) may.there next.next) (λ seat not. was.sees seat);
     }
 
--- each log that follows the protocol is sound: its steps are legal, and what is held was offered
+-- in each log that follows the protocol the steps are legal, and the rules accept each event that a pass holds on the word that it found
 pub logs_sound : (log : Log) → IsLog log → FollowsProtocol log → IsSound log
 logs_sound log = may_induction MayBeTaken (λ l. FollowsProtocol l → IsSound l)
     (λ f. record { steps = may_none IsLegalStep; sees = λ seat. tt })
     (λ xs x before may was f. sound_next xs x may (may_last IsNextOfProtocol xs x f) (was (may_begin IsNextOfProtocol xs (x ∷ []) f)))
     log
 
--- the rule of the protocol is legal: so the history is, and numbers and entries fit one another
+-- a log that follows the protocol has only legal steps: each keeps the history legal, adds only an entry with the number of its own pass,
+-- and enlists only a pass with no number
 pub legal_steps : IsLegalRule IsNextOfProtocol
 legal_steps log is follows = (logs_sound log is follows).steps
 
@@ -123,7 +125,8 @@ legal_steps log is follows = (logs_sound log is follows).steps
 pub logs_legal : (log : Log) → IsLog log → FollowsProtocol log → IsLegal (history_of log)
 logs_legal log is follows = legal_history log (legal_steps log is follows)
 
--- in a log that follows the protocol the numbers of passes and the entries fit one another
+-- a log that follows the protocol gives its reporters the numbers from 1 to how many they are, at most 255, each to one pass; and the
+-- entries with a number are those that its pass added
 pub logs_facts : (log : Log) → IsLog log → FollowsProtocol log → LogFacts log
 logs_facts log is follows = log_facts log is (legal_steps log is follows)
 

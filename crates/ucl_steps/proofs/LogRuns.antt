@@ -28,7 +28,7 @@ use Rattle.ucl_steps.specs.LogHistory.{IsCall}
 use Rattle.ucl_steps.specs.LogRuns.{caller_for, cast_for, ends_by, steps_on, steps_after, machine_steps, LongerLogsAreLongerRuns}
 use Rattle.ucl_steps.specs.LogRuns.{HoldsAs, LogsAreRuns}
 
--- the machine's steps for one step more of a log
+-- the machine's steps for x, a step that comes after this log
 abbrev own_steps : Log → Logged → List Step
 own_steps log x = let d = client_at x.seat log in steps_on (caller_for x.seat d.number) d.number d.held x.step.target x.step.at
 
@@ -49,7 +49,7 @@ steps_more log x = steps_append [] log (x ∷ []) ∙ ap (λ (l : List Step). ma
 pub longer_logs : LongerLogsAreLongerRuns
 longer_logs log later p = (steps_after log p.0, sym (steps_append [] log p.0) ∙ ap machine_steps p.1)
 
--- a step and then the steps after it lead where these lead
+-- if a step leads from w to v, and more steps from v to u, the step and then these steps lead from w to u
 one_then : (s : Step) (steps : List Step) (w v u : MachineState) → after_step w s ≡ Some v → after_steps steps v ≡ Some u → after_steps (s ∷ steps) w ≡ Some u
 one_then s steps w v u one rest = ap (option_and_then (after_steps steps)) one ∙ rest
 
@@ -59,24 +59,25 @@ run_append [] ys w v e = ap (after_steps ys) (same_Some w v e)
 run_append (s ∷ xs) ys w v e = option_and_then_some (after_steps xs) (after_step w s) v e (λ u is rest. ap (option_and_then (after_steps (xs ++ ys))) is
     ∙ run_append xs ys u v rest)
 
--- what a caller holds after an outcome
+-- in state w caller c holds what the outcome of its call k says if the call goes on, and is idle if the call has its reply
 abbrev HeldThen : Caller → ℕ → Outcome → MachineState → Type 0
 HeldThen c k (GoesOn held) w = held_by w.callers c ≡ Some (Within k held)
 HeldThen c k (Answers reply) w = held_by w.callers c ≡ Some Idle
 
--- call k is one of this caller
+-- call k in the list of calls is one of caller c, and asked this
 record IsCallOf (calls : List CallRecord) (k : ℕ) (c : Caller) (call : Call) : Type 0 where
   record_is : CallRecord
   at : slice_get calls k ≡ Some record_is
   caller : record_is.caller ≡ c
   asked : record_is.call ≡ call
 
--- a call that has its reply, and its point
+-- if the outcome is a reply, call k of caller c, which asked this, has that reply and this point
 abbrev IsAnswered : List CallRecord → ℕ → Caller → Call → ℕ → Outcome → Type 0
 IsAnswered calls k c call point (GoesOn held) = Unit {0}
 IsAnswered calls k c call point (Answers reply) = (i : IsCallOf calls k c call) × IsDecided i.record_is point reply
 
--- steps of a caller, by which this came of its call
+-- these steps lead from state w to one with this history, in which the call of caller c has this outcome, with this point if it is a reply,
+-- and all other callers hold what they held
 record Leaves (c : Caller) (w : MachineState) (steps : List Step) (call : Call) (point : ℕ) (o : Outcome) (history : List Entry) : Type 0 where
   last : MachineState
   run : after_steps steps w ≡ Some last
@@ -86,7 +87,8 @@ record Leaves (c : Caller) (w : MachineState) (steps : List Step) (call : Call) 
   holds : HeldThen c place o last
   answered : IsAnswered last.calls place c call point o
 
--- from the step on a match word on, where v is the board after it
+-- if step s gives call k of caller c an outcome, then s, and the call's End if the outcome is a reply, lead to that outcome (Leaves). State
+-- v has the words and the history after s, and what the callers held before it
 leaves_by : (c : Caller) (w v : MachineState) (s : Step) (k point : ℕ) (x : CallerState) (call : Call) (o : Outcome) → held_by w.callers c ≡ Some x → v.callers ≡ w.callers
     → IsCallOf v.calls k c call → after_step w s ≡ Some (after_outcome c k point o v) → Leaves c w (s ∷ ends_by o c) call point o v.history
 leaves_by c w v s k point x call (GoesOn held) holds same known one =
@@ -122,7 +124,8 @@ leaves_by c w v s k point x call (Answers reply) holds same known one =
       );
     }
 
--- where a call begins
+-- if steps lead from the state in which an idle caller has begun a call to an outcome of it (Leaves), the Begin and then these steps do so
+-- from the state before
 leaves_begun : (c : Caller) (call : Call) (w : MachineState) (steps : List Step) (point : ℕ) (o : Outcome) (history : List Entry) → held_by w.callers c ≡ Some Idle
     → rules.may_begin c call ≡ true → Leaves c (after_begin c call w) steps call point o history → Leaves c w (machine.Begin c call ∷ steps) call point o history
 leaves_begun c call w steps point o history idle may l =
@@ -139,7 +142,7 @@ leaves_begun c call w steps point o history idle may l =
       answered = l.answered;
     }
 
--- a call that has just begun
+-- a call that a caller has just begun is the last in the list of calls
 begun_now : (c : Caller) (call : Call) (w : MachineState) → IsCallOf (after_begin c call w).calls (length w.calls) c call
 begun_now c call w = let b = begun_call c call (length w.history) in record { record_is = b; at = at_end w.calls b; caller = refl; asked = refl }
 
@@ -256,12 +259,12 @@ held_after (Answers reply) = NoCall
 outcome_held : (o : Outcome) (y : Taken) (d : ClientState) → ((with_outcome o y d).number ≡ d.number) × ((with_outcome o y d).held ≡ held_after o)
 outcome_held o y d = search arith
 
--- a caller within a call holds something
+-- in a run of the machine a caller that is within a call and holds h matches a pass that holds h, which is not NoCall
 holds_within : (steps : List Step) (w : MachineState) → Keeps steps w → (c : Caller) (k : ℕ) (h : Pending) → held_by w.callers c ≡ Some (Within k h)
     → HoldsAs h (held_by w.callers c)
 holds_within steps w kept c k h holds = search (arith, (kept.knows c (Within k h) k holds refl).sees)
 
--- what a caller holds after an outcome is what the pass holds then
+-- in a run of the machine a caller that holds what an outcome says matches a pass after that outcome
 holds_then : (steps : List Step) (w : MachineState) → Keeps steps w → (c : Caller) (k : ℕ) (o : Outcome) → HeldThen c k o w
     → HoldsAs (held_after o) (held_by w.callers c)
 holds_then steps w kept c k o holds = search (arith, holds_within)
@@ -270,10 +273,11 @@ holds_then steps w kept c k o holds = search (arith, holds_within)
 reporter_is : (seat number : ℕ) → IsReporter number → caller_for seat number ≡ Reporter number
 reporter_is seat number reporter = search arith
 
+-- readers that are the same caller have the same number
 same_reader : (n m : ℕ) → Reader n ≡ Reader m → n ≡ m
 same_reader n m e = cc
 
--- different passes have different callers
+-- the passes of two seats have different callers, if they do not have the same reporter's number
 callers_apart : (i j n m : ℕ) → i ≢ j → (0 < n → n ≡ m → i ≡ j) → caller_for i n ≢ caller_for j m
 callers_apart i j n m not numbers e = search (arith, same_reader, same_reporter)
 
@@ -281,7 +285,7 @@ callers_apart i j n m not numbers e = search (arith, same_reader, same_reporter)
 not_reporter : (n seat number : ℕ) → number < n → Reporter n ≢ caller_for seat number
 not_reporter n seat number less e = search (arith, same_reporter)
 
--- a call that is settled by a history is settled by a longer one
+-- if the reply to a call is that of the board of one thread at its point in the history of a log, it is so with one step more of the log
 settled_later : (log : Log) (x : Logged) (c : FinishedCall) → IsSettled (history_of log) c → IsSettled (history_of (log ++ x ∷ [])) c
 settled_later log x c s =
     let p = begins log x in
@@ -289,7 +293,8 @@ settled_later log x c s =
     let low = s.0 in
     (omega arith, sequential_later (history_of log) (history_of (log ++ x ∷ [])) p c.point (Reporter c.number) c.call c.reply s.0 s.1)
 
--- what is sequential for the caller of a pass is so for the reporter with the number of the pass, which is 0 for a reader
+-- if a reply to the caller of a pass is that of the board of one thread after k entries (IsSequential), it is so too for the reporter with
+-- the number of the pass, which is 0 for a reader
 by_reporter : (h : List Entry) (seat number k : ℕ) (call : Call) (reply : Reply) → IsSequential h k (caller_for seat number) call reply
     → IsSequential h k (Reporter number) call reply
 by_reporter h seat number k call reply s = search arith
@@ -298,7 +303,7 @@ by_reporter h seat number k call reply s = search arith
 lies_low : (c : CallRecord) (k : ℕ) (reply : Reply) (n : ℕ) → LiesWithin c k reply n → k ≤ n
 lies_low c k reply n s = search arith
 
--- the call that the caller of a pass made last is answered as by the board of one thread
+-- in a run of the machine a call of a pass's caller that has its reply has that of the board of one thread at its point
 settled_now : (steps : List Step) (w : MachineState) → Keeps steps w → (seat number k : ℕ) (call : Call) (point : ℕ) (reply : Reply)
     → IsAnswered w.calls k (caller_for seat number) call point (Answers reply) → (point ≤ length w.history) × IsSequential w.history point (Reporter number) call reply
 settled_now steps w kept seat number k call point reply a =
@@ -318,7 +323,7 @@ pub record Leads (readers : ℕ) (log : Log) : Type 0 where
   pub each : (seat : ℕ) → seat < readers → HoldsAs (client_at seat log).held (held_by state.callers (caller_for seat (client_at seat log).number))
   unnumbered : (n : ℕ) → enlisted_by log < n → n ≤ 255 → held_by state.callers (Reporter n) ≡ Some Idle
 
--- the state that a log leads to has what a run keeps
+-- the state of the machine that a log leads to satisfies `Keeps`, the invariant of runs
 keeps_log : (readers : ℕ) (log : Log) (r : Leads readers log) → Keeps (machine_steps log) r.state
 keeps_log readers log r = run_kept (machine_steps log) [] (initial_state (cast_for readers)) r.state (kept_at_start (cast_for readers)) r.run
 
@@ -401,7 +406,7 @@ module _ (readers : ℕ) (log : Log) (r : Leads readers log) (facts : LogFacts l
     unnumbered = λ n above few. r.unnumbered n (omega arith) few;
   }
 
--- the step of a seat on this target
+-- a step of this seat on this target, with its place in the log, the length of the history before it, and the entry that it adds, if any
 abbrev placed : ℕ → Target → ℕ → ℕ → Option Entry → Logged
 placed seat target place at entry = record { seat = seat; step = record { target = target; place = place; at = at; entry = entry } }
 
@@ -512,7 +517,7 @@ module _ (readers : ℕ) (log : Log) (r : Leads readers log) (is_log : IsLog log
       leads_same readers log r (logs_facts log is_log follows) x refl (is ∙ enlist_none held number found) refl (omega arith)
       (λ below. subst (λ (h : Pending). HoldsAs h (held_by r.state.callers (caller_for seat (found + 1)))) (sym next.0) (ap (held_by r.state.callers) same ∙ free))
 
--- at first each caller is idle
+-- each caller in a list of n idle ones is idle
 idle_in : (n k : ℕ) → k < n → slice_get (replicate n Idle) k ≡ Some Idle
 idle_in (suc n) (suc k) l = idle_in n k (omega arith)
 idle_in n k l = search arith
@@ -563,12 +568,12 @@ logs_run readers log is follows seated =
       linearizable = subst (λ (h : List Entry). IsLinearizableRun (machine_steps log) h l.state.calls) l.history_is (linearizable (machine_steps log) l.state kept);
     }
 
--- more readers than each seat that took a step in a log
+-- there is a number greater than each seat that took a step in a log
 pub seats_below : (log : Log) → (n : ℕ) × All (λ (x : Logged). x.seat < n) log
 seats_below [] = (0, All-nil (λ (x : Logged). x.seat < 0))
 seats_below (x ∷ log) = let t = seats_below log in let n = t.0 + (x.seat + 1) in
     (n, All-cons (λ (y : Logged). y.seat < n) x log (omega arith) (below_more t.0 n log (omega arith) t.1))
 
--- with so many it leads to a state of the machine
+-- each log that follows the protocol leads to a state of the machine, with as many readers as its seats need
 pub run_of : (log : Log) → IsLog log → FollowsProtocol log → Leads (seats_below log).0 log
 run_of log is follows = leads_all (seats_below log).0 log is follows (seats_below log).1

@@ -13,7 +13,7 @@ use Rattle.ucl_steps.specs.declared.machine.Held.TheVariants as has
 use Rattle.ucl_steps.proofs.Runs.{Keeps, word_now, kept_at_start, run_kept}
 use Rattle.ucl_steps.proofs.Calls.{in_call}
 
--- a state that steps lead to has what a run keeps
+-- a state that enabled steps lead to from the start satisfies `Keeps`, the invariant of runs of the machine, with these steps
 pub reached_kept : (w : MachineState) (r : IsReachable w) → Keeps r.1 w
 reached_kept w r = run_kept r.1 [] (initial_state r.0) w (kept_at_start r.0) r.2
 
@@ -25,7 +25,7 @@ reached_short w r = (versions w.history (reached_kept w r).legal).1
 pub word_is : (w : MachineState) (r : IsReachable w) (g : ℕ) → IsMatch g → IsWord (word_at w.words g)
 word_is w r g within = let k = reached_kept w r in record { of = match_after w.history g; valid = match_valid g w.history k.legal; packed = sym (word_now r.1 w k g within) }
 
--- the list with one element changed, by its place
+-- to change element k of a list by f is to set it to f of what it was
 pub change_at-set : {X : Type 0} (k : ℕ) (f : X → X) (xs : List X) (d : X) → k < length xs → change_at k f xs ≡ set xs k (f (get_or xs k d))
 change_at-set k f [] d l = absurd (omega arith)
 change_at-set zero f (x ∷ xs) d l = refl
@@ -88,13 +88,13 @@ module _ (w : MachineState) (c : Caller) (k : ℕ) (ws : List ℕ) (n : ℕ) (tw
   pub first_more : (n ≡ 11 → ⊥) → with_held (Within k (Collecting (take (n + 1) (set ws n (get_or w.words n 0))))) c w ≡ state_after_first c k (take n ws) w
   first_more not = search (arith, long, ne_eqb, one_longer)
 
--- the program begins in the machine's first state
+-- a state with a fresh board, no entry, no call, and only idle callers is the initial state of the machine
 pub start_is : (cast : Cast) (words : List ℕ) (history : List Entry) (calls : List CallRecord) (reporters readers : List CallerState) → words ≡ board_of [] → history ≡ [] → calls ≡ []
     → reporters ≡ replicate cast.reporters Idle → readers ≡ replicate cast.readers Idle
     → state words history calls reporters readers ≡ initial_state cast
 start_is cast words history calls reporters readers w a b c d = search (arith, board_none)
 
--- what a step makes of the state, where its caller holds this
+-- if the caller of step s holds x in state w, s leads from w to the state to which it leads a caller that holds x
 pub step_is : (s : Step) (w w' : MachineState) (x : CallerState) → held_by w.callers (caller_of s) ≡ Some x → after_step_holding s (Some x) w ≡ Some w' → after_step w s ≡ Some w'
 step_is s w w' x holds e = ap (λ (o : Option CallerState). after_step_holding s o w) holds ∙ e
 
@@ -138,11 +138,11 @@ module _ (w : MachineState) (r : IsReachable w) (c : Caller) (o : Option Held) (
       → after_step w (Second c) ≡ Some (after_reply c k p (Copied (reading_of ws)) w)
   clean_step k ws n p is same last = search (arith, holds, eq-eqb, step_is)
 
--- a step that was taken was enabled
+-- a step that was taken (`taken` is true) leads from the state `old` to the state `new`
 pub taken_step : (old new : MachineState) (s : Step) (taken : Bool) → Takes old s taken new → taken ≡ true → after_step old s ≡ Some new
 taken_step old new s taken t is = search (arith, false≢true)
 
--- one step more of a list
+-- if the first `at` steps of a list lead from w to v, and the next one from v to u, the first `at + 1` lead from w to u
 pub steps_more : (steps : List Step) (at : ℕ) (s : Step) (w v u : MachineState) → slice_get steps at ≡ Some s → after_steps (take at steps) w ≡ Some v → after_step v s ≡ Some u
     → after_steps (take (suc at) steps) w ≡ Some u
 steps_more (x ∷ steps) (suc at) s w v u here before then =

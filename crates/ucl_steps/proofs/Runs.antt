@@ -27,13 +27,14 @@ use Rattle.ucl_steps.specs.Traces.{IsLeftBy}
 abbrev pub time_of : CallRecord → Time
 time_of c = record { caller = c.caller; call = c.call; begun = c.begun; ended = c.ended }
 
--- the caller of a call that has not ended holds it
+-- caller c is in call k, by what it holds
 pub record IsHeld (cs : Callers) (c : Caller) (k : ℕ) : Type 0 where
   pub holds : CallerState
   pub held_is : held_by cs c ≡ Some holds
   pub in_it : in_call holds ≡ Some k
 
--- what each run keeps: its history is legal, gives the words and explains the calls, which come in turn; and what callers hold is so
+-- the invariant of runs of the machine, for the state w after these steps: the history is legal, gives the words, and explains the calls,
+-- which are in the order of time; each entry is of one call; and a caller is in a call exactly if it is its own and has not ended
 pub record Keeps (steps : List Step) (w : MachineState) : Type 0 where
   pub legal : IsLegal w.history
   pub words : w.words ≡ board_of w.history
@@ -49,10 +50,11 @@ change_at_same k [] = refl
 change_at_same zero (a ∷ xs) = refl
 change_at_same (suc k) (a ∷ xs) = ap (λ (z : List CallRecord). a ∷ z) (change_at_same k xs)
 
+-- an option has a value, or is None
 some_or_none : (o : Option ℕ) → IsSome o ⊎ (o ≡ None)
 some_or_none o = search arith
 
--- a call that has its reply may end now
+-- a call that a history explains, and that has its reply, is still explained if it ends now
 explained_closed : (h : List Entry) (c : CallRecord) (p : Option ℕ) (r : Option Reply) → Explains h c p r → IsSome r → Explains h (with_end (length h) c) p r
 explained_closed h c p r s some = search (arith, false≢true)
 
@@ -161,10 +163,11 @@ module _ (steps : List Step) (w : MachineState) (kept : Keeps steps w) (c : Call
 abbrev entered : EventCall → ℕ → Entry
 entered e r = record { game = e.game; reporter = r; kind = e.kind }
 
+-- reporters that are the same caller have the same number
 pub same_reporter : (n m : ℕ) → Reporter n ≡ Reporter m → n ≡ m
 same_reporter n m e = cc
 
--- a reading of these words, with this version, is sequential at that length of the history
+-- a reading of the board after the first k entries of a history, with version k, is the reply of the board of one thread after k entries
 sequential_reading : (h : List Entry) (k : ℕ) (c : Caller) (board : List ℕ) (version : ℕ) → board ≡ board_of (take k h) → version ≡ k
     → IsSequential h k c Reading (Copied (record { board = board; version = version }))
 sequential_reading h k c board version same is = search arith
@@ -387,18 +390,18 @@ idle_all n k x e = search (arith, none-some, same_Some)
 idle_at_start : (cast : Cast) (c : Caller) (x : CallerState) → held_by (initial_state cast).callers c ≡ Some x → x ≡ Idle
 idle_at_start cast c x e = search (arith, none-some, idle_all)
 
--- the initial state, after no steps, has what a run keeps
+-- the initial state, after no steps, satisfies `Keeps`, the invariant of runs of the machine
 pub kept_at_start : (cast : Cast) → Keeps [] (initial_state cast)
 kept_at_start cast = search (arith, may_none MayFollow, board_none, none-some, turns_none, in_call, idle_at_start)
 
--- what a run keeps is so after each list of enabled steps
+-- a state that satisfies `Keeps`, the invariant of runs of the machine, after the steps `done` does so after more enabled steps
 pub run_kept : (steps done : List Step) (w w' : MachineState) → Keeps done w → after_steps steps w ≡ Some w' → Keeps (done ++ steps) w'
 run_kept [] done w w' kept e = subst (λ (z : List Step). Keeps z w') (sym (append-nil done)) (subst (Keeps done) (same_Some w w' e) kept)
 run_kept (s ∷ steps) done w w' kept e = option_and_then_some (after_steps steps) (after_step w s) w' e (λ v is then.
     subst (λ (z : List Step). Keeps z w') (append_assoc done (s ∷ []) steps)
     (run_kept steps (done ++ s ∷ []) v w' (step_kept done w kept s (held_by w.callers (caller_of s)) v refl is) then))
 
--- the times of calls tell the caller and the call that each call has
+-- the times of some calls (Time) have the same callers, and ask the same, as the calls
 told_caller_and_call : (xs : List CallRecord) → map told (map time_of xs) ≡ map caller_and_call xs
 told_caller_and_call [] = refl
 told_caller_and_call (a ∷ xs) = ap (λ (z : List (Caller × Call)). caller_and_call a ∷ z) (told_caller_and_call xs)

@@ -75,14 +75,14 @@ module _ (steps : List Step) (s : Step) where
   pub number_at_end : (i : ℕ) (c : Caller) (p : ℕ) → p ≡ length steps → BeginsAt (steps ++ s ∷ []) p i c → i ≡ length (begun_in steps)
   number_at_end i c p is b = search (arith, take-append-le, take-length)
 
--- when a call began and ended
+-- a call in time: its caller, what it asks, and how many entries there were when it began, and when it ended, if it has ended
 pub record Time : Type 0 where
   pub caller : Caller
   pub call : Call
   pub begun : ℕ
   pub ended : Option ℕ
 
--- the caller and the call of a time
+-- the caller of a call, and what it asks
 abbrev pub told : Time → Caller × Call
 told t = (t.caller, t.call)
 
@@ -91,7 +91,8 @@ abbrev pub EndedBy : Option ℕ → ℕ → Type 0
 EndedBy None n = ⊥
 EndedBy (Some e) n = e ≤ n
 
--- the order of calls in time: they begin and end where the steps say, in turn for each caller; the history has n entries
+-- calls are in the order of time, if these steps led to a history of n entries: they begin and end where the steps say, in turn for each
+-- caller; and if a call ended before another began, it had at its end no more entries than the other at its beginning
 pub record Turns (steps : List Step) (n : ℕ) (ts : List Time) : Type 0 where
   pub same : begun_in steps ≡ map told ts
   pub past : (i : ℕ) (t : Time) → slice_get ts i ≡ Some t → (t.begun ≤ n) × IfSome t.ended (λ e. e ≤ n)
@@ -100,7 +101,7 @@ pub record Turns (steps : List Step) (n : ℕ) (ts : List Time) : Type 0 where
   pub closed : (i : ℕ) (a : Time) → slice_get ts i ≡ Some a → IsSome a.ended → (p : ℕ) × EndsAt steps p i a.caller
   pub real : (p q i j : ℕ) (c d : Caller) (a b : Time) → EndsAt steps p i c → BeginsAt steps q j d → p < q → slice_get ts i ≡ Some a → slice_get ts j ≡ Some b → EndedBy a.ended b.begun
 
--- no steps and no calls are in the order of time, with a history of no entry
+-- with no steps and no calls, and a history of no entry, calls are in the order of time (Turns)
 pub turns_none : Turns [] 0 []
 turns_none = search (arith, none-some)
 
@@ -129,10 +130,11 @@ ended_by o n some p = search (arith, false≢true)
 not_ended : (o : Option ℕ) (n : ℕ) → o ≡ None → EndedBy o n → ⊥
 not_ended o n e p = search (arith, none-some)
 
+-- an option that is None has no value
 not_some : (o : Option ℕ) → o ≡ None → IsSome o → ⊥
 not_some o e p = search (arith, false≢true, none-some)
 
--- a step within a call keeps the order
+-- if calls are in the order of time (Turns), they are so after a step that neither begins nor ends a call, and that may add to the history
 pub turns_inner : (steps : List Step) (n m : ℕ) (ts : List Time) (s : Step) → IsInner s → n ≤ m → Turns steps n ts → Turns (steps ++ s ∷ []) m ts
 turns_inner steps n m ts s inner le k = record {
   same = begun_in-append steps (s ∷ []) ∙ (ap (λ (z : List (Caller × Call)). begun_in steps ++ z) (inner_none s inner) ∙ (append-nil (begun_in steps) ∙ k.same));
@@ -143,7 +145,7 @@ turns_inner steps n m ts s inner le k = record {
   real = λ p q i j c d a b e f l at at'. search (arith, old_or_last steps s q (Begin d f.call) f.begins, k.real p q i j c d a b, back_ends, back_begins, inner);
 }
 
--- a call begins: all earlier calls of its caller have ended
+-- if calls are in the order of time (Turns), they are so after a caller whose calls have all ended begins one more
 pub turns_begin : (steps : List Step) (n : ℕ) (ts : List Time) (c : Caller) (call : Call) → ((i : ℕ) (a : Time) → slice_get ts i ≡ Some a → a.caller ≡ c → IsSome a.ended) → Turns steps n ts
     → Turns (steps ++ Begin c call ∷ []) n (ts ++ record { caller = c; call = call; begun = n; ended = None } ∷ [])
 turns_begin steps n ts c call idle k =
@@ -178,16 +180,17 @@ turns_begin steps n ts c call idle k =
     apart : {c d : Caller} {call : Call} → Begin c call ≡ End d → ⊥
     apart e = cc
 
--- the time of a call that ends when the history has n entries
+-- the call in time with its end set to n, a length of the history
 abbrev pub ended_at : ℕ → Time → Time
 ended_at n t = record t { ended = Some n }
 
--- a call that is begun has its time
+-- if `ts` lists the calls that these steps begin, call i of them is in that list, with its caller
 time_of_call : (steps : List Step) (ts : List Time) (i : ℕ) (c : Caller) (call : Call) → begun_in steps ≡ map told ts → slice_get (begun_in steps) i ≡ Some (c, call)
     → (t : Time) × (slice_get ts i ≡ Some t) × (t.caller ≡ c)
 time_of_call steps ts i c call same e = search (arith, at_below, length-map, get_some, slice_get-map, same_Some)
 
--- the time of a call before a step that ends the call at this place, and which time it has after it
+-- call k ends when the history has n entries: `ts` has call i before that, with the same caller and beginning as `after`, which is call i
+-- then. Only the end of call k has changed, and no end that was set
 record TimeBefore (k n : ℕ) (ts : List Time) (i : ℕ) (after : Time) : Type 0 where
   time : Time
   there : slice_get ts i ≡ Some time
@@ -196,7 +199,7 @@ record TimeBefore (k n : ℕ) (ts : List Time) (i : ℕ) (after : Time) : Type 0
   ended : (time.ended ≡ after.ended) ⊎ (time.ended ≡ None)
   which : ((i ≡ k) × (after.ended ≡ Some n)) ⊎ ((i ≢ k) × (time ≡ after))
 
--- a call that had ended by then still has
+-- if a call had ended by length m of the history, it still has after a change of its end, unless one that was set is changed
 still_ended : (before after : Time) → (before.ended ≡ after.ended) ⊎ (before.ended ≡ None) → (m : ℕ) → EndedBy before.ended m → EndedBy after.ended m
 still_ended before after is m by = search (arith, not_ended)
 

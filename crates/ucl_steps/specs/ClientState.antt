@@ -32,8 +32,8 @@ call_asked held (Match (Look event) game found) = Event event
 call_asked (Holding event old new) target = Event event
 call_asked held target = Reading
 
--- what a step on this target brings, by its pass's number, what the pass held before, and `now`: the pass holds this and its call goes on
--- (GoesOn), or the call has this reply (Answers); a step that the protocol does not allow there leaves what is held
+-- what comes of a step on this target by a pass with this number that holds this, if the history has `now` entries: the call goes on, and
+-- what the pass then holds (GoesOn), or the reply to the call (Answers). A step that is none of its call's next ones leaves what is held
 abbrev pub outcome : ℕ → Pending → Target → ℕ → Outcome
 outcome number held (Match (Look event) game found) now = looked number event found
 outcome number (Holding event old new) (Match Swap game found) now = swapped old new found
@@ -42,8 +42,8 @@ outcome number (Collecting words) (Match First game found) now = loaded words fo
 outcome number (Checking words checked point) (Match Second game found) now = compared words checked point found
 outcome number held target now = GoesOn held
 
--- of the first step of the call to which a step belongs what `now` is of that step itself: that is `now` if the pass held no call before
--- the step, else `first`, what was kept of the first step of the pass's latest call
+-- when the call of a step began: `now`, the time of the step itself, if its pass held no call before it; else `first`, the time kept of the
+-- call's first step. Both times are places in the log, or both are lengths of the history
 abbrev pub first_place : Pending → ℕ → ℕ → ℕ
 first_place NoCall first now = now
 first_place held first now = first
@@ -76,7 +76,8 @@ with_outcome (GoesOn held) step old = record old {
 }
 with_outcome (Answers reply) step old = record old { calls = old.calls ++ call_answered reply step old ∷ []; held = NoCall }
 
--- the state of a pass after a step on this target: an enlistment gives it the number after those found; else by the protocol's outcome
+-- the state of a pass after a step on this target: an enlistment that found n reporters gives it number n + 1; any other step has the
+-- outcome that the protocol gives it
 abbrev pub with_target : Target → Taken → ClientState → ClientState
 with_target (Enlists found) step old = record old { number = found + 1 }
 with_target target step old = with_outcome (outcome old.number old.held target step.at) step old

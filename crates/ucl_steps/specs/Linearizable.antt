@@ -40,8 +40,8 @@ pub record MakesEntry (history : List Entry) (c : FinishedCall) : Type 0 where
   pub entry : slice_get history c.point ≡ Some (entry_of c.number event)
   pub by_end : c.point < c.ended
 
--- a call has the reply of the board of one thread after the entries before its point, which is not before the call's beginning, and not
--- after its end; if it was accepted, it made the entry there
+-- a call has the reply of the board of one thread after the entries before the call's point; the point is not before the call's beginning,
+-- nor after its end; and if the call was accepted, it made the entry at its point
 pub record IsExplained (history : List Entry) (c : FinishedCall) : Type 0 where
   pub turn : c.first ≤ c.last
   pub within : (c.begun ≤ c.point) × (c.point ≤ c.ended) × (c.ended ≤ length history)
@@ -56,8 +56,8 @@ GoesBefore a b = (a.point < b.point) ⊎ ((a.point ≡ b.point) × (accepts a.re
 abbrev pub MadeBy : {I : Type 0} → (I → FinishedCall → Type 0) → ℕ → I → Type 0
 MadeBy IsCall place i = (c : FinishedCall) × IsCall i c × (accepts c.reply ≡ true) × (c.point ≡ place)
 
--- calls are linearizable: the history is legal, explains each, and has each entry by exactly one; and if a call ended before another began,
--- it comes before it, and if both are readings, the later has no lower version. `IsCall i c` says that c is call i
+-- calls are linearizable (`IsCall i c` says that c is call i): the history is legal and explains each call, and each entry is of exactly
+-- one call. If call a ended before call b began, a comes before b, and if both are readings, b has no lower version
 pub record IsLinearizable {I : Type 0} (history : List Entry) (IsCall : I → FinishedCall → Type 0) : Type 0 where
   pub legal : IsLegal history
   pub explained : (i : I) (c : FinishedCall) → IsCall i c → IsExplained history c

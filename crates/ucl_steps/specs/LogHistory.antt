@@ -12,8 +12,8 @@ IsCall log seat k call = slice_get (client_at seat log).calls k ≡ Some call
 abbrev pub entries_before : Log → ℕ → ℕ
 entries_before log place = length (history_of (take place log))
 
--- a finished call ended with a step of the log; it began when there were so many entries as before its first step, and had ended when there
--- were so many as after its last; and its point is not after those before its last step
+-- a finished call ended with a step of the log; `begun` and `ended` are how many entries there were before its first step and after its
+-- last one; and its point, a length of the history, is at most the length before its last step
 pub record IsTimely (log : Log) (c : FinishedCall) : Type 0 where
   pub ended : c.last < length log
   pub entries : (c.begun ≡ entries_before log c.first) × (c.ended ≡ entries_before log (c.last + 1))

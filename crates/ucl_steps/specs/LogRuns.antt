@@ -65,7 +65,7 @@ machine_steps log = steps_after [] log
 abbrev pub LongerLogsAreLongerRuns : Type 0
 LongerLogsAreLongerRuns = (log later : Log) → IsPrefix log later → IsPrefix (machine_steps log) (machine_steps later)
 
--- a caller that holds this holds what a pass holds between two of its steps: it is idle if the pass has no call, else within a call
+-- what a caller holds, `holds`, matches what a pass holds: it is idle if the pass has no call, else within a call, and holds the same
 abbrev pub HoldsAs : Pending → Option CallerState → Type 0
 HoldsAs NoCall holds = holds ≡ Some Idle
 HoldsAs held holds = (call : ℕ) × (holds ≡ Some (Within call held))

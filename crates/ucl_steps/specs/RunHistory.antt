@@ -43,13 +43,13 @@ abbrev pub caller_number : Caller → ℕ
 caller_number (Reporter number) = number
 caller_number (Reader number) = 0
 
--- c has the end of call i of this caller: its End in the list, where the history was as long as recorded (`ended`); a call with no End counts
--- as one that ends after all steps
+-- c ends as call i of this caller does: at the call's End in the list of steps, where the history was as long as recorded (`ended`), or,
+-- if the call has no End, after all steps
 abbrev pub EndsAs : List Step → List Entry → ℕ → Caller → Option ℕ → FinishedCall → Type 0
 EndsAs steps history i caller (Some ended) c = (c.ended ≡ ended) × EndsAt steps c.last i caller
 EndsAs steps history i caller None c = (c.ended ≡ length history) × (c.last ≡ length steps)
 
--- call i has a reply, and is this call, by what is recorded of it and by the steps that begin and end it
+-- c is call i as a finished call: call i has a reply, and c has what is recorded of it, and the places of the steps that begin and end it
 pub record IsReplied (steps : List Step) (history : List Entry) (calls : List CallRecord) (i : ℕ) (c : FinishedCall) : Type 0 where
   pub recorded : CallRecord
   pub at : slice_get calls i ≡ Some recorded
@@ -58,7 +58,8 @@ pub record IsReplied (steps : List Step) (history : List Entry) (calls : List Ca
   pub begins : (c.begun ≡ recorded.begun) × BeginsAt steps c.first i recorded.caller
   pub ends : EndsAs steps history i recorded.caller recorded.ended c
 
--- call i has a reply if it has ended, and has a point exactly if it has a reply; if it has one, it is the call that `IsReplied` says
+-- call i, as recorded, has a reply if it has ended, and has a point exactly if it has a reply. If it has one, there is a finished call with
+-- what is recorded of it, and with the places of the steps that begin and end it
 pub record IsRecorded (steps : List Step) (history : List Entry) (calls : List CallRecord) (i : ℕ) (recorded : CallRecord) : Type 0 where
   pub replied : IsSome recorded.ended → IsSome recorded.reply
   pub pointed : IsSome recorded.point ↔ IsSome recorded.reply

@@ -40,11 +40,12 @@ pub record IsReadFrom (history : List Entry) (low high : ℕ) (reading : Reading
   pub steps : (24 ≤ length ms) × (length ms ≤ 24 * (length accesses.tries + 1))
   pub bound : (length accesses.tries < max_tries) × (length ms ≤ max_loads)
 
--- each reading whose accesses follow a legal history is the board after the first entries of it, within the bounds that IsReadFrom says
+-- if the accesses of a reading follow a legal history, the reading is the board after a prefix of it, as long as its version says; it has
+-- no more unclean tries than entries came meanwhile, and at most 24 loads for each try
 abbrev pub ReadingsAreSnapshots : Type 0
 ReadingsAreSnapshots = (history : List Entry) (low high : ℕ) (reading : Reading) (ms : List Access) → IsLegal history → high ≤ length history → Follows history low ms high → (accesses : ReadingAccesses reading ms) → IsReadFrom history low high reading ms accesses
 
--- if a report's accesses follow a legal history, its reply is that of the board of one thread after the entries when it was decided
+-- if the accesses of a report follow a legal history, its reply is that of the board of one thread after the entries before its last access
 abbrev pub ReportsAreSequential : Type 0
 ReportsAreSequential = (history : List Entry) (low high now : ℕ) (call : EventCall) (reply : Result Accepted Refusal) (ms : List Access) → IsLegal history → Follows history low ms high → ReportAccesses call reply ms now
     → sequential_reply (take (decided_at reply now) history) call ≡ reply

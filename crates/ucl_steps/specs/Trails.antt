@@ -50,7 +50,8 @@ pub record SwapMissed (call : EventCall) (refusal : Refusal) (ms : List Access) 
   pub other : found ≢ looked
   pub answer : refusal ≡ Stale (record_at found).number
 
--- a report whose Swap found the word of its Look: its event, which the rules accept there, is accepted, and its entry is the last of `now`
+-- a report whose Swap found the word of its Look: the rules accept its event on that word, it is accepted, and its entry is the last of the
+-- `now` entries that there are then
 pub record SwapWon (call : EventCall) (reply : Accepted) (ms : List Access) (now : ℕ) : Type 0 where
   pub looked : ℕ
   pub at : ℕ
@@ -65,7 +66,8 @@ abbrev pub ReportAccesses : EventCall → Result Accepted Refusal → List Acces
 ReportAccesses call (Ok reply) ms now = SwapWon call reply ms now
 ReportAccesses call (Err refusal) ms now = LookRefused call refusal ms now ⊎ SwapMissed call refusal ms now
 
--- how many entries there were when the reply to a report was decided, by how many its pass had then seen: an accepted event adds one
+-- how many entries there were just before the last access of a report with this reply, if there are `now` just after it: an accepted event
+-- adds one
 abbrev pub decided_at : Result Accepted Refusal → ℕ → ℕ
 decided_at (Ok reply) now = now - 1
 decided_at (Err refusal) now = now

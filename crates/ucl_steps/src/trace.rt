@@ -62,6 +62,7 @@ pub enum StepFault {
 impl From<AllocError> for StepFault {
     ghost from_gives = { λ _ fault. fault ≡ OutOfMemory };
 
+    /// Returns `OutOfMemory`.
     fn from(_error: AllocError) -> StepFault {
         StepFault::OutOfMemory
     }

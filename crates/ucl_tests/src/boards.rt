@@ -14,7 +14,7 @@ use ucl_word::Side::{Away, Home};
 use ucl_word::{Accepted, EventCall, Kind, MatchNo, Refusal};
 use ucl_words::{WordBoard, WordReaderPass, WordReporterPass};
 
-/// A new reporter of the board.
+/// Makes a reporter's pass of the board from a pass that is split off `reader`; nothing if no number is left.
 fn enlisted<B: LiveBoard, R: Wait>(
     rt: &R,
     board: &B,
@@ -28,7 +28,7 @@ fn enlisted<B: LiveBoard, R: Wait>(
     board.enlist(rt, pass).ok()
 }
 
-/// The version that a reader reads.
+/// Takes a reading, and returns its version.
 fn version_read<B: LiveBoard, R: Wait>(rt: &R, board: &B, pass: &mut B::ReaderPass) -> u16
     requires { B.is_reader board.now pass.old }
     ensures { B.is_reader board.now pass.new }
@@ -36,7 +36,7 @@ fn version_read<B: LiveBoard, R: Wait>(rt: &R, board: &B, pass: &mut B::ReaderPa
     board.read(rt, pass).version
 }
 
-/// The reply to an event, of which the number that is given or found, or the refusal.
+/// Enters an event (match, expected number and kind), and returns the number that it got, or why it was refused.
 fn reply_to<B: LiveBoard, R: Wait>(
     rt: &R,
     board: &B,
@@ -88,7 +88,8 @@ static REOPENED: [Answered; 11] = [
     (8, FullTime, Ok(9), 0x2001080000006009),
 ];
 
-/// The first of these events that gets another reply or leaves another word, which its reporter reads, and its number as the version.
+/// Enters events, and returns the first that does not get the listed reply, or after which its reporter does not read the listed word of
+/// match 1 and, as the version, its event number. It is returned with its own reply and word.
 fn first_other<B: LiveBoard, R: Wait>(
     rt: &R,
     board: &B,
@@ -109,8 +110,8 @@ fn first_other<B: LiveBoard, R: Wait>(
     None
 }
 
-/// Enters events in match 1: the first that gets another answer, and the versions that a reader reads before and after them, and another
-/// one, which is split off, in a thread of its own.
+/// Enters events in match 1. Returns the first whose outcome is not the listed one, and three versions: read before the events, after them,
+/// and then by another pass, split off and moved to another thread.
 fn read_back_on<B: LiveBoard, R: Threads + Wait + Sync>(
     rt: &R,
     board: &B,
@@ -137,6 +138,7 @@ fn read_back_on<B: LiveBoard, R: Threads + Wait + Sync>(
     Some((other, [before, after, moved]))
 }
 
+/// On both kinds of boards the listed events of match 1 have the listed replies and words, and versions read before and after are right.
 #[test]
 fn read_back(rt: HostRuntime) -> Result<(), Fail> {
     for (events, version) in [(SEVEN_EVENTS.as_slice(), 7), (&REOPENED, 9)] {
@@ -171,7 +173,8 @@ fn enlisted_with<B: LiveBoard, R: Wait>(
     Some(pass)
 }
 
-/// The version that is settled by reporters with 2 and 3 accepted events, after a third with so many, whose pass is dropped.
+/// The answer of settling by two reporters, with 2 and 3 accepted events, on a board on which a third, whose pass was dropped, has entered
+/// `others` events: the version, or that there are strangers.
 fn settled_on<B: LiveBoard, R: Wait>(
     rt: &R,
     board: &B,
@@ -187,6 +190,7 @@ fn settled_on<B: LiveBoard, R: Wait>(
     Some(settled.map(|reading| reading.version))
 }
 
+/// On both kinds of boards two reporters with 5 events settle on version 5; if a third has entered one, they find strangers at version 6.
 #[test]
 fn settling(rt: HostRuntime) -> Result<(), Fail> {
     for (others, answer) in [(0, Ok(5)), (1, Err(Strangers { version: 6 }))] {
@@ -199,7 +203,7 @@ fn settling(rt: HostRuntime) -> Result<(), Fail> {
     Ok(())
 }
 
-/// The passes of 255 reporters, who get the numbers from 1 to 255; there is none where one gets another.
+/// The passes of 255 reporters, enlisted one after the other; nothing if one does not get the next number, from 1 to 255.
 fn all_enlisted<B: LiveBoard, R: Wait>(
     rt: &R,
     alloc: Global,
@@ -219,7 +223,7 @@ fn all_enlisted<B: LiveBoard, R: Wait>(
     Ok(Some(kept))
 }
 
-/// The version that a pass reads which the board does not enlist; none where it does.
+/// The version that a pass reads which the board could not enlist, having no number left; nothing if it was enlisted.
 fn version_where_full<B: LiveBoard, R: Wait>(
     rt: &R,
     board: &B,
@@ -235,7 +239,8 @@ fn version_where_full<B: LiveBoard, R: Wait>(
     }
 }
 
-/// All numbers, each once, and no other: neither while their passes are kept nor after these are dropped.
+/// Enlists 255 reporters, and then tries to enlist one more, while their passes are kept and after they are dropped. Returns the version
+/// that the refused pass reads, each time; nothing where a pass was enlisted, or if one of the 255 got a wrong number.
 fn all_numbers_on<B: LiveBoard, R: Wait>(
     rt: &R,
     alloc: Global,
@@ -252,6 +257,7 @@ fn all_numbers_on<B: LiveBoard, R: Wait>(
     Ok(Some([beside, version_where_full(rt, board, &mut reader)]))
 }
 
+/// Both kinds of boards give each number from 1 to 255 once, and then enlist no reporter, even after all passes are dropped.
 #[test]
 fn all_numbers(rt: HostRuntime) -> Result<(), Fail> {
     let alloc = rt.alloc();
@@ -282,7 +288,7 @@ fn enter_match<B: LiveBoard, R: Wait>(rt: &R, board: &B, pass: &mut B::ReporterP
     }
 }
 
-/// Enters all matches so, and answers how many events were accepted and the version that the reporter reads then.
+/// Enters all events that each of the twelve matches can have. Returns how many were accepted, and the version that is read then.
 fn enter_all<B: LiveBoard, R: Wait>(rt: &R, board: &B, pass: &mut B::ReporterPass) -> (u16, u16)
     requires { B.is_reporter board.now pass.old }
     ensures { B.is_reporter board.now pass.new }
@@ -295,8 +301,8 @@ fn enter_all<B: LiveBoard, R: Wait>(rt: &R, board: &B, pass: &mut B::ReporterPas
     (B::accepted_of(pass), board.read_own(rt, pass).version)
 }
 
-/// On a board that takes no more, the first match and kind of which an event with the right number gets another reply: a match is finished,
-/// and has no number left for being reopened.
+/// On a board on which all matches have all their events, the first match and kind whose event is not refused as it has to be: to reopen a
+/// match for want of an event number, any other since the match is finished.
 fn first_late<B: LiveBoard, R: Wait>(
     rt: &R,
     board: &B,
@@ -335,7 +341,8 @@ fn versions_rise<B: LiveBoard, R: Wait>(rt: &R, board: &B, mut pass: B::ReaderPa
     true
 }
 
-/// One reporter enters all events that a board can take while two readers read, each in a thread of its own.
+/// Has a reporter enter all events that a board can take while two readers read, each in a thread of its own. Returns the accepted events
+/// and the version; the first later event that is not refused as it has to be; and whether the versions of each reader never fell.
 fn all_events_on<B: LiveBoard, R: Threads + Wait + Sync>(
     rt: &R,
     board: &B,
@@ -371,6 +378,7 @@ fn all_events_on<B: LiveBoard, R: Threads + Wait + Sync>(
     Some((entered, late, [one, two]))
 }
 
+/// Both kinds of boards take 49,140 events, and refuse each later one, while the versions that two readers read never fall.
 #[test]
 fn all_events_with_two_readers(rt: HostRuntime) -> Result<(), Fail> {
     let (board, reader) = CellBoard::open(&rt, rt.alloc())?;
@@ -402,8 +410,8 @@ fn kicked_off(
     Some((pass, reply))
 }
 
-/// What two reporters of one kick-off are answered, and what the second and a reader read then: all six own calls of the board, and
-/// nothing that could wait.
+/// Two reporters enter one kick-off. Returns both replies, and what the second, after meeting the first, and a reader read. Makes each of
+/// the six calls of a word board that cannot wait.
 fn one_kick_off_by_two(
     board: &WordBoard,
     reader: &mut WordReaderPass,
@@ -417,6 +425,8 @@ fn one_kick_off_by_two(
     Some(([accepted, refused], [own, board.read_now(reader)]))
 }
 
+/// If two reporters enter one kick-off by calls that cannot wait, the second is refused as stale, and it and a reader read the same board
+/// of version 1.
 #[test]
 fn calls_that_cannot_wait(rt: HostRuntime) -> Result<(), Fail> {
     let (board, mut reader) = WordBoard::open(&rt, rt.alloc())?;

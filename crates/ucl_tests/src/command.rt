@@ -51,6 +51,7 @@ static LINES: [(&str, Option<Line>); 10] = [
     ("ucl_night", None),
 ];
 
+/// Each listed command line of `ucl_night` is read as listed, or refused.
 #[test]
 fn lines(rt: HostRuntime) -> Result<(), Fail> {
     for &(line, wanted) in LINES.as_slice() {

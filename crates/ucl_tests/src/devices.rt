@@ -15,6 +15,7 @@ pub struct Cut<'a> {
 }
 
 impl io::Read for Cut<'_> {
+    /// Gives the next bytes of the text, at most `piece`. It fails once after `room` bytes, and once if it is called again after the end.
     fn read(&mut self, buf: &mut [u8]) -> io::Result<usize> {
         if self.room == 0 {
             self.room = usize::MAX;
@@ -46,6 +47,7 @@ pub struct Out<'a> {
 }
 
 impl io::Write for Out<'_> {
+    /// Takes at most 64 bytes. After `room` bytes it fails once, or takes none once, as `fails` says; then it takes bytes again.
     fn write(&mut self, buf: &[u8]) -> io::Result<usize> {
         if self.room == 0 && !buf.is_empty() {
             self.room = usize::MAX;
@@ -62,6 +64,7 @@ impl io::Write for Out<'_> {
         Ok(n)
     }
 
+    /// Does nothing, since nothing is buffered.
     fn flush(&mut self) -> io::Result<()> {
         Ok(())
     }
@@ -75,6 +78,7 @@ struct Counted<'a> {
 }
 
 impl Counted<'_> {
+    /// Counts a call, and returns how many bytes it moves, 1 or, if `most` is 0, none. The call with the number `failing` fails.
     fn moves(&mut self, most: usize) -> io::Result<usize>
         ensures { IfOk result (λ n. (n ≤ most) × (n ≤ 1)) }
     {
@@ -87,6 +91,7 @@ impl Counted<'_> {
 }
 
 impl io::Read for Counted<'_> {
+    /// Counts a call, and gives one byte, unless this call is to fail.
     fn read(&mut self, buf: &mut [u8]) -> io::Result<usize> {
         let n = self.moves(buf.len())?;
         buf[..n].copy_from_slice(&b"a"[..n]);
@@ -95,17 +100,19 @@ impl io::Read for Counted<'_> {
 }
 
 impl io::Write for Counted<'_> {
+    /// Counts a call, and takes one byte, unless this call is to fail.
     fn write(&mut self, buf: &[u8]) -> io::Result<usize> {
         self.moves(buf.len())
     }
 
+    /// Does nothing, since nothing is buffered.
     fn flush(&mut self) -> io::Result<()> {
         Ok(())
     }
 }
 
-/// A source calls its reader, and a sink its writer, once for each call that could move a byte, until one fails; and no whole text that is
-/// given calls it more often.
+/// A source calls its reader, and a sink its writer, once for each call that could move a byte, and never again after one has failed; nor
+/// does `give_all`, which gives a sink a whole text.
 #[test]
 fn devices_are_called_until_they_fail(rt: HostRuntime) {
     for failing in 1..4 {
@@ -138,7 +145,7 @@ fn devices_are_called_until_they_fail(rt: HostRuntime) {
     }
 }
 
-/// No length of a slice makes a device fail.
+/// A source and a sink over devices that never fail move a byte for a slice of each length from 1 to 16,384.
 #[test]
 fn devices_take_slices_of_any_length(rt: HostRuntime) {
     let (mut reads, mut writes) = (0, 0);

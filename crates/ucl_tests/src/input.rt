@@ -40,12 +40,14 @@ fn joined(alloc: Global, parts: &[&[u8]]) -> Result<Vec<u8>, AllocError> {
 struct Endless;
 
 impl io::Read for Endless {
+    /// Fills the whole buffer with the digit 1, at each call.
     fn read(&mut self, buf: &mut [u8]) -> io::Result<usize> {
         buf.fill(b'1');
         Ok(buf.len())
     }
 }
 
+/// A script and a sheet that never end are refused as too long.
 #[test]
 fn reader_that_never_ends(rt: HostRuntime) {
     let night = read_night(rt.alloc(), &mut FromRead::new(Endless));
@@ -54,10 +56,12 @@ fn reader_that_never_ends(rt: HostRuntime) {
     assert_eq!(rt; sheet.err(), Some(InputFault::TooLong));
 }
 
+/// Reads a text as a script.
 fn night_of(alloc: Global, text: &[u8]) -> Result<Night, InputFault> {
     read_night(alloc, &mut FromRead::new(text))
 }
 
+/// Reads a text as a sheet.
 fn sheet_of(alloc: Global, text: &[u8]) -> Result<Sheet, InputFault> {
     read_words(alloc, &mut FromRead::new(text))
 }
@@ -92,6 +96,7 @@ static SCRIPTS: [(&[u8], &[u8], Result<usize, InputFault>); 17] = [
     (CLUBS, b"club,5,Echo,1", Err(BadRow { row: 5 })),
 ];
 
+/// Each listed script is read with the listed number of events, or refused with the listed fault.
 #[test]
 fn scripts(rt: HostRuntime) -> Result<(), Fail> {
     for &(front, rest, events) in SCRIPTS.as_slice() {
@@ -102,7 +107,7 @@ fn scripts(rt: HostRuntime) -> Result<(), Fail> {
     Ok(())
 }
 
-/// A script that ends anywhere is taken, or a row of it is bad.
+/// A script that is cut off after any number of its bytes is read, or refused for a bad row.
 #[test]
 fn every_beginning_of_a_script(rt: HostRuntime) -> Result<(), Fail> {
     let text = joined(rt.alloc(), &[CLUBS, HEAD_TO_HEAD])?;
@@ -116,7 +121,7 @@ fn every_beginning_of_a_script(rt: HostRuntime) -> Result<(), Fail> {
     Ok(())
 }
 
-/// The first club's name, which no roster takes, is told after row 4 is found good and before row 5 is read.
+/// A first club's name that no roster takes is told after row 4 is found good and before row 5 is read; a quoted name may have a comma.
 #[test]
 fn names(rt: HostRuntime) -> Result<(), Fail> {
     let alloc = rt.alloc();
@@ -192,7 +197,8 @@ static SHEETS: [([&str; 5], &str, Option<InputFault>); 8] = [
     ),
 ];
 
-/// The rows of a sheet after those of the clubs.
+/// The text of a sheet: the club rows; the word rows, with the first four of `words` for matches 1, 2, 3 and 7 and the fifth for all
+/// others; and then `last`.
 fn sheet_text(alloc: Global, words: &[&str; 5], last: &str) -> Result<Vec<u8>, Fail> {
     let mut rows = String::new(alloc);
     for index in 1..13 {
@@ -208,6 +214,7 @@ fn sheet_text(alloc: Global, words: &[&str; 5], last: &str) -> Result<Vec<u8>, F
     Ok(joined(alloc, &[CLUBS, rows.as_bytes(), last.as_bytes()])?)
 }
 
+/// Each listed sheet, of words of either layout, is read as the same board, or refused with the listed fault.
 #[test]
 fn sheets(rt: HostRuntime) -> Result<(), Fail> {
     let alloc = rt.alloc();

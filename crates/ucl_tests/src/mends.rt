@@ -19,7 +19,7 @@ fn event(game: u8, expected: u16, kind: Kind) -> Result<NightEvent, Fail> {
     })
 }
 
-/// A goal taken back takes with it what the rules then refuse, and nothing of another match.
+/// If a mend takes back a goal, it drops what the rules then refuse, here the disallowing of the goal, and nothing of another match.
 #[test]
 fn a_goal_is_taken_back(rt: HostRuntime) -> Result<(), Fail> {
     let mut events = StandingEvents::none(rt.alloc())?;

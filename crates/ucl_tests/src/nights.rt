@@ -17,12 +17,13 @@ use ucl_runs::{Gate, NightEnd, OpenGate, night_run, put_night};
 use ucl_screen::{FromRead, Night, ToWrite, read_night, screen};
 use ucl_words::WordBoard;
 
+/// Reads the club rows and then these event rows as a script.
 fn night_of(alloc: Global, rows: &str) -> Result<Night, Fail> {
     let script = joined(alloc, &[CLUBS, rows])?;
     Ok(read_night(alloc, &mut FromRead::new(script.as_bytes()))?)
 }
 
-/// The version and the screen that a night settles on.
+/// Runs a night on the board, and returns the version that it settles on, and the closing screen.
 fn held<B: LiveBoard, G: Gate, R: Threads + Wait + Sync>(
     rt: &R,
     alloc: Global,
@@ -50,7 +51,7 @@ enum Rule {
 /// How often a gate looks before it lets a worker pass all the same.
 const MAX_TURNS: u32 = 100_000_000;
 
-/// Looks until a number has come to this, and tells whether it has.
+/// Looks until a number has come to `wanted`, at most a fixed number of times, and tells whether it has.
 fn has_come_to(number: &AtomicU32, wanted: u32) -> bool {
     for _ in 0..MAX_TURNS {
         if number.load(Ordering::SeqCst) >= wanted {
@@ -60,7 +61,7 @@ fn has_come_to(number: &AtomicU32, wanted: u32) -> bool {
     false
 }
 
-/// Waits in the same way until both of two numbers have come to the one that is wanted; false if one has not in time.
+/// Waits until each of two numbers has come to `wanted`; false if one has not after a fixed number of looks.
 fn have_come_to([first, second]: &[AtomicU32; 2], wanted: u32) -> bool {
     has_come_to(first, wanted) && has_come_to(second, wanted)
 }
@@ -70,6 +71,7 @@ fn pair() -> [AtomicU32; 2] {
     [AtomicU32::new(0), AtomicU32::new(0)]
 }
 
+/// The values of two counters.
 fn counts([first, second]: &[AtomicU32; 2]) -> [u32; 2] {
     [first.load(Ordering::SeqCst), second.load(Ordering::SeqCst)]
 }
@@ -88,6 +90,7 @@ struct Watch {
 }
 
 impl Watch {
+    /// A gate, which the workers of a night call as they go, that holds calls back by this rule and has counted nothing yet.
     fn new(alloc: Global, rule: Rule) -> Result<Watch, Fail> {
         Ok(Watch {
             alloc,
@@ -100,7 +103,7 @@ impl Watch {
         })
     }
 
-    /// How often each worker came, how many screens each reader showed, and whether anything was wrong.
+    /// What the gate has noted: the calls of each reporter and of each reader, the screens of each reader, and whether anything was wrong.
     fn notes(&self) -> ([[u32; 2]; 3], bool) {
         (
             [
@@ -112,7 +115,8 @@ impl Watch {
         )
     }
 
-    /// Holds a call back until the workers that the rule names have come to their first calls; false if they have not in time.
+    /// Holds a worker's first call back as the rule says: until all four workers have come, or, if it is a reader's, until both reporters
+    /// have come twice; false if that takes too long.
     fn is_in_time(&self, is_reader: bool, call: u32) -> bool {
         match self.rule {
             Rule::FourAtOnce if call == 0 => {
@@ -123,7 +127,7 @@ impl Watch {
         }
     }
 
-    /// Whether a text is the screen of a reading, which has what both reporters entered first if they went first.
+    /// Whether a text is the screen of a reading, which has to have at least two events if the rule lets the reporters go first.
     fn is_right(&self, reading: &Reading, text: &str) -> bool {
         let is_late = self.rule == Rule::FourAtOnce || reading.version >= 2;
         match screen(self.alloc, &reading.board, &self.roster, b'A', Uefa) {
@@ -134,6 +138,7 @@ impl Watch {
 }
 
 impl Gate for Watch {
+    /// Counts a worker's call, holds it back if the rule says so, and notes as wrong a call that is out of turn or was held back too long.
     fn come(&self, worker: u8, call: u32) {
         let own = match worker {
             1 => &self.reporters[0],
@@ -147,6 +152,7 @@ impl Gate for Watch {
         }
     }
 
+    /// Counts a reader's screen, and notes as wrong one that is not the screen of its reading, or comes from a reporter.
     fn shown(&self, worker: u8, reading: &Reading, text: &str) {
         let own = &self.screens[usize::from(worker != 3)];
         if !self.is_right(reading, text) || worker < 3 {
@@ -156,7 +162,8 @@ impl Gate for Watch {
     }
 }
 
-/// A night under a rule on a board settles on all events, and each worker came to the gate before each of its calls, and showed each screen.
+/// On both kinds of boards, and under each rule by which a gate holds calls back, a night settles on all 40 events, and the gate sees each
+/// call and each screen.
 #[test]
 fn gates(rt: HostRuntime) -> Result<(), Fail> {
     let alloc = rt.alloc();
@@ -176,6 +183,7 @@ fn gates(rt: HostRuntime) -> Result<(), Fail> {
     Ok(())
 }
 
+/// Fifty nights of one script, with 20 readings by each reader, end with the same screen on both kinds of boards.
 #[test]
 fn fifty_nights(rt: HostRuntime) -> Result<(), Fail> {
     let alloc = rt.alloc();
@@ -191,7 +199,7 @@ fn fifty_nights(rt: HostRuntime) -> Result<(), Fail> {
     Ok(())
 }
 
-/// The end of a night in which both readers showed a screen.
+/// An end of a night, made up by hand, in which both readers showed a screen.
 fn end_with_both_screens(alloc: Global) -> Result<NightEnd<(), ()>, Fail> {
     let board = Board::fresh();
     Ok(NightEnd {
@@ -210,7 +218,7 @@ fn end_with_both_screens(alloc: Global) -> Result<NightEnd<(), ()>, Fail> {
 
 const BOTH_SCREENS: &str = "READER 1\none\nREADER 2\nanother\nFINAL\nthe end\n";
 
-/// The answer of `put_night` to the end of a night, and what it wrote to an output with so much room.
+/// Writes the output of a night to a device that takes `room` bytes and then fails if `fails`, else takes none. Returns the result and what was written.
 fn put(alloc: Global, end: &NightEnd<(), ()>, room: usize, fails: bool) -> Ran {
     let mut out = Vec::new(alloc);
     let answer = {
@@ -224,6 +232,7 @@ fn put(alloc: Global, end: &NightEnd<(), ()>, room: usize, fails: bool) -> Ran {
     (answer, out)
 }
 
+/// The output of a night has both readers' last screens and the closing one. If its device stops after some bytes, just these are out.
 #[test]
 fn output_of_a_night(rt: HostRuntime) -> Result<(), Fail> {
     let alloc = rt.alloc();

@@ -44,6 +44,7 @@ static FAULTS: [(RunFault, u8, &str); 12] = [
     (Strangers { version: 6 }, 6, "board refused 31: version 6"),
 ];
 
+/// Each fault of a run is written as the listed line, and has the listed exit status.
 #[test]
 fn faults(rt: HostRuntime) -> Result<(), Fail> {
     for &(fault, status, line) in FAULTS.as_slice() {
@@ -63,7 +64,8 @@ enum Run {
     Show,
 }
 
-/// The answer of a run to an input that fails after so many bytes, and what it wrote to an output with so much room.
+/// Runs `feed` or `show` over an input that fails after so many bytes, and an output that takes `room` bytes and then fails, or takes none.
+/// Returns the result and what was written.
 fn ran(
     alloc: Global,
     run: Run,
@@ -91,21 +93,21 @@ fn ran(
     (answer, out)
 }
 
-/// What a run writes where nothing fails.
+/// What `feed` or `show` writes for a text if no device fails.
 fn written(alloc: Global, run: Run, text: &str) -> Result<String, Fail> {
     let (answer, out) = ran(alloc, run, text, usize::MAX, (usize::MAX, true));
     answer?;
     Ok(String::from_str(alloc, std::str::from_utf8(&out)?)?)
 }
 
-/// Whether a run wrote just the first `room` bytes of a text, and told then that its output had failed.
+/// Whether a run wrote exactly the first `room` bytes of a text, and reported that its output had failed after so many.
 pub fn has_stopped((answer, out): &Ran, text: &str, room: usize) -> bool {
     *answer == Err(WriteFailed { written: room })
         && Some(out.as_slice()) == text.as_bytes().get(..room)
 }
 
-/// A run writes just what fits where its output fails or takes no byte from some place on, and nothing where its input fails. No device
-/// that has failed is asked again.
+/// If its output fails or takes no byte after any number of bytes, a run has written just these; if its input fails, it has written
+/// nothing. A device that has failed is not called again.
 #[test]
 fn failing_devices(rt: HostRuntime) -> Result<(), Fail> {
     let alloc = rt.alloc();
@@ -177,7 +179,7 @@ static SCRIPTS: [(&str, &str, usize, [&str; 3], &str); 4] = [
     ),
 ];
 
-/// What is fed for a script is shown from its word lines on.
+/// The word lines that `feed` writes for a script are, after its club rows, a sheet for which `show` writes the listed screen.
 #[test]
 fn scripts_are_fed_and_shown(rt: HostRuntime) -> Result<(), Fail> {
     let alloc = rt.alloc();
@@ -198,7 +200,7 @@ fn scripts_are_fed_and_shown(rt: HostRuntime) -> Result<(), Fail> {
     Ok(())
 }
 
-/// The words of the first layout are shown as those of this one are.
+/// A sheet with words of the first layout has the same screen as one with the words of the present layout for the same matches.
 #[test]
 fn old_words_are_shown(rt: HostRuntime) -> Result<(), Fail> {
     let sheet = joined(rt.alloc(), &[CLUBS, STORED_OLD_WORDS])?;

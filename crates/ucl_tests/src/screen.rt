@@ -43,6 +43,7 @@ GROUP A v12276 IN PLAY 0
 4 - Charlie               6  0  6  0 378 378   +0   6
 ";
 
+/// Four boards have the listed screens: two worked groups, a fresh board, and one of the largest words.
 #[test]
 fn screens(rt: HostRuntime) -> Result<(), Fail> {
     let roster = sample_roster(rt.alloc())?;

@@ -9,7 +9,7 @@ use ucl_io::LoggedIo;
 use ucl_live_runs::{FollowSummary, follow_run, live_run};
 use ucl_screen::{FromRead, ToWrite};
 
-/// What a session of an input that comes in pieces of this size writes.
+/// What a session, a run of `ucl_live`, writes for an input that comes in pieces of `piece` bytes.
 fn session(alloc: Global, format: Format, text: &str, piece: usize) -> Result<String, Fail> {
     let mut out = Vec::new(alloc);
     let options = LiveArgs {
@@ -37,7 +37,8 @@ fn session(alloc: Global, format: Format, text: &str, piece: usize) -> Result<St
     Ok(String::from_str(alloc, std::str::from_utf8(&out)?)?)
 }
 
-/// The stored run, and then the screen and the words that it leaves, however the input comes.
+/// A session answers the rows of a script with the listed replies, and then shows its screen and its words, whatever the pieces in which
+/// the input comes.
 #[test]
 fn session_as_text(rt: HostRuntime) -> Result<(), Fail> {
     let alloc = rt.alloc();
@@ -50,7 +51,7 @@ fn session_as_text(rt: HostRuntime) -> Result<(), Fail> {
     Ok(())
 }
 
-/// What a follower of some lines shows, and its counts.
+/// What a follower (`ucl_follow`) shows for some lines, with the numbers of lines and of board states shown.
 fn followed(alloc: Global, lines: &str) -> Result<(String, FollowSummary), Fail> {
     let (mut out, mut errors) = (Vec::new(alloc), Vec::new(alloc));
     let args = FollowArgs {
@@ -78,7 +79,7 @@ fn followed(alloc: Global, lines: &str) -> Result<(String, FollowSummary), Fail>
     }
 }
 
-/// A follower of the answers in JSON ends with the screen of the evening.
+/// A follower of a session's answers in JSON shows the screen of the session's board last.
 #[test]
 fn session_in_json(rt: HostRuntime) -> Result<(), Fail> {
     let alloc = rt.alloc();

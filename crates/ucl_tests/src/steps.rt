@@ -215,6 +215,7 @@ static WORKED: [Worked; 7] = [
     ),
 ];
 
+/// The reporter with this number; the reader if it is 0.
 fn caller(number: u8) -> Caller {
     match ReporterNo::new(number) {
         Some(reporter) => Caller::Reporter(reporter),
@@ -230,6 +231,7 @@ fn repeat<T: Copy>(items: &mut Vec<T>, item: T, times: u8) -> Result<(), AllocEr
     Ok(())
 }
 
+/// The call that enters an event: match, expected number and kind.
 fn event_of((game, expected, kind): Event) -> Result<Call, Fail> {
     Ok(Call::Event(EventCall {
         game: MatchNo::new(game).ok_or("no such match")?,
@@ -238,7 +240,7 @@ fn event_of((game, expected, kind): Event) -> Result<Call, Fail> {
     }))
 }
 
-/// The four steps of an event.
+/// Appends the four steps in which a reporter enters an event: it begins, loads the word, exchanges it, and ends.
 fn enter(steps: &mut Vec<Step>, by: Caller, event: Event) -> Result<(), Fail> {
     let call = event_of(event)?;
     let all = [
@@ -250,7 +252,7 @@ fn enter(steps: &mut Vec<Step>, by: Caller, event: Event) -> Result<(), Fail> {
     Ok(steps.extend_from_slice(&all)?)
 }
 
-/// The 26 steps of a reading that nothing disturbs.
+/// Appends the 26 steps of a reading that nothing disturbs: its begin, two collects of 12 loads, and its end.
 fn read(steps: &mut Vec<Step>, by: Caller) -> Result<(), AllocError> {
     steps.push(Step::Begin(by, Call::Reading))?;
     repeat(steps, Step::First(by), 12)?;
@@ -258,7 +260,7 @@ fn read(steps: &mut Vec<Step>, by: Caller) -> Result<(), AllocError> {
     Ok(steps.push(Step::End(by))?)
 }
 
-/// The steps of a turn.
+/// Appends the steps of a turn, which is what a caller does next in a worked list.
 fn play(steps: &mut Vec<Step>, turn: Turn) -> Result<(), Fail> {
     match turn {
         Opens => steps.push(Step::Begin(READER, Call::Reading))?,
@@ -277,6 +279,7 @@ fn play(steps: &mut Vec<Step>, turn: Turn) -> Result<(), Fail> {
     Ok(())
 }
 
+/// The reply of a call for which a listed answer stands; a copied board has these words.
 fn reply(answer: Answer, words: &[u64; 12]) -> Option<Reply> {
     match answer {
         Nothing => None,
@@ -289,7 +292,7 @@ fn reply(answer: Answer, words: &[u64; 12]) -> Option<Reply> {
     }
 }
 
-/// The first call whose outcome is another. Calls past the last outcome have that one too.
+/// The first call of a trace whose outcome is not the listed one. Each call past the last outcome has to have that one too.
 fn first_other(trace: &Trace, outcomes: &[Outcome]) -> Option<usize> {
     let last = outcomes.last()?;
     for (place, call) in trace.calls.iter().enumerate() {
@@ -307,6 +310,7 @@ const TWO_REPORTERS: Cast = Cast {
     readers: 1,
 };
 
+/// Each worked list of steps leaves the listed words, its calls have the listed outcomes, and the history has the accepted events.
 #[test]
 fn worked_lists(rt: HostRuntime) -> Result<(), Fail> {
     for &(name, turns, count, begun, outcomes) in WORKED.as_slice() {
@@ -329,7 +333,7 @@ fn worked_lists(rt: HostRuntime) -> Result<(), Fail> {
     Ok(())
 }
 
-/// A reporter that has looked and never goes on stops nobody.
+/// A reporter that has loaded the word of its match, and never goes on, stops no other caller.
 #[test]
 fn stopped_reporter(rt: HostRuntime) -> Result<(), Fail> {
     let mut steps = Vec::new(rt.alloc());
@@ -363,7 +367,7 @@ GROUP A v00002 IN PLAY 2
 4   Charlie               1  0  1  0   0   0   +0   1
 ";
 
-/// The screen of the reading whose first collect was torn.
+/// The screen of a reading that had to try again, since two events came during its first collect, shows both events.
 #[test]
 fn screen_of_a_reading(rt: HostRuntime) -> Result<(), Fail> {
     let alloc = rt.alloc();
@@ -386,7 +390,7 @@ const ONE_REPORTER: Cast = Cast {
     readers: 1,
 };
 
-/// Each event of every match spoils one try of a reading.
+/// A reading ends after the most tries that it can need: each event that a board can take, one after the other, makes one try fail.
 #[test]
 fn bound_of_tries(rt: HostRuntime) -> Result<(), Fail> {
     let mut steps = Vec::new(rt.alloc());
@@ -416,6 +420,7 @@ fn bound_of_tries(rt: HostRuntime) -> Result<(), Fail> {
     Ok(())
 }
 
+/// A list with a step that is not enabled, such as an exchange by a reader, is refused with the place of that step.
 #[test]
 fn steps_not_enabled(rt: HostRuntime) -> Result<(), Fail> {
     let reading = Step::Begin(READER, Call::Reading);

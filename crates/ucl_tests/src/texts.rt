@@ -18,12 +18,13 @@ fn is_written<F: Display>(alloc: Global, fault: &F, line: &str) -> bool {
     }
 }
 
-/// Whether an input's fault is written as this line, and also the fault of a run that has it.
+/// Whether a fault of an input is written as this line, and also the fault of a run that failed for it.
 fn is_line(alloc: Global, fault: InputFault, line: &str) -> bool {
     is_written(alloc, &fault, line) && is_written(alloc, &RunFault::Input(fault), line)
 }
 
-/// Each word and each slot that there could be, rows up to a large number, and numbers of bytes at which lists grow and reads end.
+/// Each fault of an input is written as its line: for each number of a word or slot, for rows up to a large number, and for numbers of
+/// bytes at which lists grow and reads end.
 #[test]
 fn faults_of_an_input(rt: HostRuntime) -> Result<(), Fail> {
     let alloc = rt.alloc();
@@ -70,6 +71,7 @@ fn faults_of_an_input(rt: HostRuntime) -> Result<(), Fail> {
     Ok(())
 }
 
+/// The faults of a board, that no number is left and that there are strangers, are written as their lines, also as faults of a run.
 #[test]
 fn faults_of_a_board(rt: HostRuntime) -> Result<(), Fail> {
     let alloc = rt.alloc();

@@ -10,7 +10,8 @@ use ucl_word::Refusal::{
 use ucl_word::Side::Home;
 use ucl_word::{BadWord, Kind, Refusal, ReporterNo, State, apply, migrate, pack, unpack};
 
-/// The number, the state, then goals, yellows and expulsions, home side first, and the reporter. The states count from 0.
+/// The fields of the match that a word packs: event number, state (counted from 0), then goals, yellows and expulsions, home side first,
+/// and reporter. Nothing if the word is of no match.
 fn fields_of(word: u64) -> Option<[u16; 9]> {
     let game = unpack(word).ok()?;
     if pack(&game) != word {
@@ -56,6 +57,7 @@ static WORDS: [(u64, Option<[u16; 9]>); 15] = [
     (0x0000420000000806, None),
 ];
 
+/// Each listed word of the present layout unpacks to the listed fields, and packs to itself again, or is of no match.
 #[test]
 fn words_of_the_layout(rt: HostRuntime) {
     for &(word, fields) in WORDS.as_slice() {
@@ -75,6 +77,7 @@ static WORDS_READ: [(u64, Result<u64, BadWord>); 8] = [
     (0x2000000000003000, Err(BadWord)),
 ];
 
+/// Each listed word, of either layout, is read as the listed word of the present layout, or refused.
 #[test]
 fn words_of_both_layouts(rt: HostRuntime) {
     for &(word, read) in WORDS_READ.as_slice() {
@@ -128,6 +131,7 @@ static EVENTS: [(u64, u16, Kind, Result<u64, Refusal>); 27] = [
     (0x2001000000001ffe, 4094, FullTime, Ok(0x2001000000002fff)),
 ];
 
+/// Each listed event, in the match of the listed word, leads to the listed word or is refused for the listed reason.
 #[test]
 fn events_by_the_rules(rt: HostRuntime) {
     for &(word, expected, kind, answer) in EVENTS.as_slice() {
@@ -136,7 +140,7 @@ fn events_by_the_rules(rt: HostRuntime) {
     }
 }
 
-/// A kick-off, then a home goal and its disallowing in turn, until only full time is left.
+/// In a match a kick-off, and then a home goal and its disallowing in turn, are accepted until only full time is left.
 #[test]
 fn all_numbers_of_a_match(rt: HostRuntime) {
     let mut word = 0x2000000000000000;
@@ -174,7 +178,7 @@ static BOARDS: [(u64, u64, u64, Result<(u64, u64), BadWordAt>); 6] = [
     (FRESH, 0, 0x0000400000001402, Ok((FRESH, GOAL))),
 ];
 
-/// Boards are read of words of both layouts, and give words of the second.
+/// A board is made from words of both layouts, and gives words of the present one. If words are bad, the first is told.
 #[test]
 fn boards_of_words(rt: HostRuntime) {
     for &(others, fourth, ninth, told) in BOARDS.as_slice() {
@@ -191,7 +195,7 @@ fn boards_of_words(rt: HostRuntime) {
     assert_eq!(rt; Board::of_words(&[0; 12]), Ok(Board::fresh()));
 }
 
-/// No refusal gives up when it is written. What it is written as is proved; `texts` has the other texts.
+/// Each refusal is written as a text that is not empty.
 #[test]
 fn refusals_are_written(rt: HostRuntime) -> Result<(), Fail> {
     for found in 0..4096 {

@@ -16,12 +16,12 @@ use Rattle.ucl_words.specs.TableInvariants.{TableInvariant}
 use Rattle.ucl_words.specs.LaterState.{LaterState}
 use Rattle.ucl_words.proofs.Boards.{later_go_on}
 
--- the version at a place of a legal history is that place
+-- the screen of a snapshot of a legal history, under each profile, roster and group, is that of the history at its point
 pub screens_show : ScreensShowTheHistory
 unfolding screen_text
 screens_show history point legal within profile roster group = rw ((versions (take point history) (legal_take history point legal)).0 ∙ length-take-le point history within)
 
--- the theorems of running boards, and of the machine, on one history
+-- each state that satisfies the invariant of the word board has one history, in which its finished calls are linearizable
 pub boards_have : BoardsHaveOneHistory TableInvariant
 boards_have s r = record {
   log = r.log;
@@ -34,7 +34,8 @@ boards_have s r = record {
   linearizable = logs_linearizable r.log r.is_log r.follows;
 }
 
--- a later state has a log that goes on from that of the earlier one
+-- if state t is later than state s, the log of s is a prefix of that of t, its finished calls are the same there, and the order of calls is
+-- that of real time
 logs_go_on : (s t : State Entry View) (r : TableInvariant s) (q : TableInvariant t) → LaterState s t → LogGoesOn s r.log q.log
 logs_go_on s t r q later = record {
   begins = more;
@@ -49,9 +50,13 @@ logs_go_on s t r q later = record {
     more : IsPrefix r.log q.log
     more = later_go_on s t r q later
 
+-- if state t is later than state s, the log that `boards_have` gives of s is a prefix of that of t, its finished calls are the same there,
+-- and the order of calls is that of real time
 later_logs : (s t : State Entry View) (r : TableInvariant s) (q : TableInvariant t) → LaterState s t → LogGoesOn s (boards_have s r).log (boards_have t q).log
 unfolding boards_have
 later_logs s t r q later = logs_go_on s t r q later
 
+-- the history of a word board only grows: from a state to a later one no entry and no finished call moves, and the order of calls is that
+-- of real time
 pub histories_go : HistoriesGoOn TableInvariant
 histories_go = record { boards = boards_have; later = later_logs }

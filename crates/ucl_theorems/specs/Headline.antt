@@ -36,8 +36,8 @@ ScreensShowTheHistory =
     (history : List Entry) (point : ℕ) → IsLegal history → point ≤ length history → (profile : Profile) (roster : List NamedClub) (group : ℕ)
     → screen_text profile (snapshot_at history point).board roster group ≡ screen_at profile history point roster group
 
--- Every run of the machine has one history, for any numbers of reporters and readers (`cast`), with calls left unfinished anywhere: it holds
--- each call that has a reply once, with that reply, between its begin and its end.
+-- Every run of the machine has one history, for any numbers of reporters and readers (`cast`), with calls left unfinished anywhere: the
+-- history holds each call that has a reply once, with that reply, between its begin and its end.
 abbrev pub EveryRunHasOneHistory : Type 0
 EveryRunHasOneHistory = (cast : Cast) (steps : List Step) (state : MachineState) → after_steps steps (initial_state cast) ≡ Some state
     → IsLinearizableRun steps state.history state.calls
@@ -71,8 +71,8 @@ BoardsHaveOneHistory rule = (state : State Entry View) → rule state → IsOneH
 abbrev pub BeganSince : State Entry View → ℕ → FinishedCall → Type 0
 BeganSince state seat c = (pass : View) × (get_elem? state.views seat ≡ some pass) × (length pass.log ≤ c.first)
 
--- The log of a state goes on in a later one: that begins with it, and each call that had finished is the same call there. In real time: of
--- two calls, if one had ended in the earlier state, and the other's pass was there and began it then or later, the one goes first.
+-- The log of a state is a prefix of the log of a later one, and each call that had finished is the same call there. In real time: if call a
+-- had finished by the earlier state, and call b, of a pass that was there, began in that state or later, a goes before b.
 pub record LogGoesOn (state : State Entry View) (log later : Log) : Type 0 where
   pub begins : IsPrefix log later
   pub calls : (seat k : ℕ) (c : FinishedCall) → IsCall log seat k c → IsCall later seat k c

@@ -9,7 +9,7 @@ use Rattle.std.proofs.Math.Bool.{and-false}
 use Rattle.ucl_word.specs.Record.{max_number_in_play}
 use Rattle.ucl_word.specs.Rules.{is_scheduled, is_in_play, is_finished, passes_limit}
 use Rattle.std.specs.Prelude.{◌&&◌, nat_lt}
-use Rattle.ucl_word.proofs.ValidRecords.{parts, whole}
+use Rattle.ucl_word.proofs.ValidRecords.{parts, valid_by_parts}
 
 -- an event of this kind, which expects this number, is accepted on the record m: no condition of a refusal holds
 pub record Accepts (m : MatchRecord) (expected : ℕ) (kind : Kind) : Type 0 where
@@ -28,7 +28,7 @@ skip : (b : Bool) (r : Refusal) (o : Option Refusal) → (if b then Some r else 
 skip true r o h = absurd cc
 skip false r o h = (refl, h)
 
--- an event that the rules refuse for nothing is accepted so
+-- if the rules give no refusal of an event, then `Accepts` holds of it: none of their conditions holds
 pub accepts : (m : MatchRecord) (expected : ℕ) (kind : Kind) → refusal_of m expected kind ≡ None → Accepts m expected kind
 unfolding refusal_of
 accepts m expected kind h =
@@ -47,19 +47,19 @@ accepts m expected kind h =
 pub expects_number : (m : MatchRecord) (expected : ℕ) (kind : Kind) → Accepts m expected kind → expected ≡ m.number
 expects_number m expected kind a = let is = a.current in grind (arith, nat_tests)
 
--- what the tests of a refusal leave of the state for any other event than a kick-off or reopening: it is in play
-pub begun : (s : State) → (is_finished s && true) ≡ false → (is_scheduled s && true) ≡ false → s ≡ InPlay
-begun s f h = search arith
+-- a state is in play if it is not finished and not scheduled, in the form that the rules test these for an event during play
+pub must_be_in_play : (s : State) → (is_finished s && true) ≡ false → (is_scheduled s && true) ≡ false → s ≡ InPlay
+must_be_in_play s f h = search arith
 
--- what the tests of a refusal leave of the state for a kick-off: it is scheduled
-pub unbegun : (s : State) → (is_finished s && true) ≡ false → (is_in_play s && true) ≡ false → s ≡ Scheduled
-unbegun s f h = search arith
+-- a state is scheduled if it is not finished and not in play, in the form that the rules test these for a kick-off
+pub must_be_scheduled : (s : State) → (is_finished s && true) ≡ false → (is_in_play s && true) ≡ false → s ≡ Scheduled
+must_be_scheduled s f h = search arith
 
--- what the tests of a refusal leave of the state for a reopening: it is finished
-pub over : (s : State) → (not (is_finished s) && true) ≡ false → s ≡ Finished
-over s h = search arith
+-- a state is finished if it is not unfinished, in the form that the rules test this for a reopening
+pub must_be_finished : (s : State) → (not (is_finished s) && true) ≡ false → s ≡ Finished
+must_be_finished s h = search arith
 
--- an event number that the test does not find at the greatest in play is below that
+-- an event number is below the greatest in play if the rules' test whether it has reached that is false
 room_left : (n : ℕ) → (nat_le max_number_in_play n && true) ≡ false → n < max_number_in_play
 room_left n h = grind (arith, nat_tests)
 
@@ -95,7 +95,7 @@ module _ (m : MatchRecord) (reporter expected : ℕ) where
       (nat_le max_number_in_play m.number && true) ≡ false
       → m'.state ≡ m.state → m'.number ≡ m.number + 1 → m'.reporter ≡ reporter → suits_state m'.state m' ≡ true
   goes_on m' v r f s n is_state is_number is_reporter =
-      let e = begun m.state f s in
+      let e = must_be_in_play m.state f s in
       let now = in_play m e v in
       let room = room_left m.number n in
       suits_in_play m'.state m' (is_state ∙ e) (omega arith) (omega arith) (rw is_reporter r)
@@ -104,21 +104,21 @@ module _ (m : MatchRecord) (reporter expected : ℕ) where
   after_suits : (kind : Kind) → IsValid m → IsReporter reporter → Accepts m expected kind → suits_state (after m reporter kind).state (after m reporter kind) ≡ true
   unfolding after
   after_suits KickOff v r a =
-      let s = rw (unbegun m.state a.unfinished a.not_started) at (parts m v).1 in
+      let s = rw (must_be_scheduled m.state a.unfinished a.not_started) at (parts m v).1 in
       let zero : m.number ≡ 0 = grind (arith, nat_tests) in
       suits_in_play InPlay (after m reporter KickOff) refl (omega arith) (omega arith) r
   after_suits FullTime v r a =
-      let now = in_play m (begun m.state a.unfinished a.started) v in
+      let now = in_play m (must_be_in_play m.state a.unfinished a.started) v in
       let n = now.1 in let low = r.0 in let high = r.1 in grind (arith, nat_tests)
   after_suits Reopen v r a =
-      let low = finished m (over m.state a.finished) v in
+      let low = finished m (must_be_finished m.state a.finished) v in
       let room = room_left m.number a.room in
       suits_in_play InPlay (after m reporter Reopen) refl (omega arith) (omega arith) r
   after_suits kind v r a = goes_on (after m reporter kind) v r a.unfinished a.started a.room (state_kept kind m refl refl refl) refl refl
 
   -- the record after an accepted event is valid
   pub after_valid : (kind : Kind) → IsValid m → IsReporter reporter → Accepts m expected kind → IsValid (after m reporter kind)
-  after_valid kind v r a = whole (after m reporter kind) (after_within kind (parts m v).0 a) (after_suits kind v r a)
+  after_valid kind v r a = valid_by_parts (after m reporter kind) (after_within kind (parts m v).0 a) (after_suits kind v r a)
 
 -- full time of a match in play is accepted
 pub full_time : (m : MatchRecord) → IsValid m → m.state ≡ InPlay → refusal_of m m.number FullTime ≡ None
@@ -153,34 +153,41 @@ kind_between m n =
     else (if nat_lt m.home_expulsions n.home_expulsions then Red Home
     else Red Away)))))))))))
 
-same : (n : ℕ) → nat_lt n n ≡ false
-same n = grind (arith, nat_tests)
+-- no number is below itself
+not_below_itself : (n : ℕ) → nat_lt n n ≡ false
+not_below_itself n = grind (arith, nat_tests)
 
-more : (n : ℕ) → nat_lt n (n + 1) ≡ true
-more n = grind (arith, nat_tests)
+-- a number is below the next one
+below_next : (n : ℕ) → nat_lt n (n + 1) ≡ true
+below_next n = grind (arith, nat_tests)
 
-less : (n : ℕ) → (n == 0) ≡ false → nat_lt (n - 1) n ≡ true
-less n stands = grind (arith, nat_tests)
+-- a number that is not 0 has a predecessor below it
+previous_below : (n : ℕ) → (n == 0) ≡ false → nat_lt (n - 1) n ≡ true
+previous_below n stands = grind (arith, nat_tests)
 
-no_less : (n : ℕ) → nat_lt n (n - 1) ≡ false
-no_less n = grind (arith, nat_tests)
+-- no number is below its predecessor
+not_below_previous : (n : ℕ) → nat_lt n (n - 1) ≡ false
+not_below_previous n = grind (arith, nat_tests)
+
+-- how a number compares with itself and its neighbours
+ruleset below = (not_below_itself, below_next, not_below_previous)
 
 -- the kind that leads from a record to the one after an accepted event is that of the event
 kind_back : (m : MatchRecord) (reporter expected : ℕ) (kind : Kind) → Accepts m expected kind → kind_between m (after m reporter kind) ≡ kind
 unfolding kind_between after
-kind_back m r n KickOff a = rw (unbegun m.state a.unfinished a.not_started) refl
-kind_back m r n FullTime a = rw (begun m.state a.unfinished a.started) refl
-kind_back m r n Reopen a = rw (over m.state a.finished) refl
-kind_back m r n (Goal Home) a = rw (begun m.state a.unfinished a.started, more m.home_goals) refl
-kind_back m r n (Goal Away) a = rw (begun m.state a.unfinished a.started, same m.home_goals, more m.away_goals) refl
-kind_back m r n (Disallow Home) a = rw (begun m.state a.unfinished a.started, no_less m.home_goals, same m.away_goals, less m.home_goals a.goal) refl
-kind_back m r n (Disallow Away) a = rw (begun m.state a.unfinished a.started, same m.home_goals, no_less m.away_goals, less m.away_goals a.goal) refl
-kind_back m r n (Yellow Home) a = rw (begun m.state a.unfinished a.started, same m.home_goals, same m.away_goals, more m.home_yellows) refl
-kind_back m r n (Yellow Away) a = rw (begun m.state a.unfinished a.started, same m.home_goals, same m.away_goals, same m.home_yellows, more m.away_yellows) refl
-kind_back m r n (SecondYellow Home) a = rw (begun m.state a.unfinished a.started, same m.home_goals, same m.away_goals, no_less m.home_yellows, same m.away_yellows, less m.home_yellows a.caution) refl
-kind_back m r n (SecondYellow Away) a = rw (begun m.state a.unfinished a.started, same m.home_goals, same m.away_goals, same m.home_yellows, no_less m.away_yellows, less m.away_yellows a.caution) refl
-kind_back m r n (Red Home) a = rw (begun m.state a.unfinished a.started, same m.home_goals, same m.away_goals, same m.home_yellows, same m.away_yellows, more m.home_expulsions) refl
-kind_back m r n (Red Away) a = rw (begun m.state a.unfinished a.started, same m.home_goals, same m.away_goals, same m.home_yellows, same m.away_yellows, same m.home_expulsions) refl
+kind_back m r n KickOff a = rw (must_be_scheduled m.state a.unfinished a.not_started) refl
+kind_back m r n FullTime a = rw (must_be_in_play m.state a.unfinished a.started) refl
+kind_back m r n Reopen a = rw (must_be_finished m.state a.finished) refl
+kind_back m r n (Goal Home) a = rw (must_be_in_play m.state a.unfinished a.started) (simp (below))
+kind_back m r n (Goal Away) a = rw (must_be_in_play m.state a.unfinished a.started) (simp (below))
+kind_back m r n (Disallow Home) a = rw (must_be_in_play m.state a.unfinished a.started) (simp (below, previous_below m.home_goals a.goal))
+kind_back m r n (Disallow Away) a = rw (must_be_in_play m.state a.unfinished a.started) (simp (below, previous_below m.away_goals a.goal))
+kind_back m r n (Yellow Home) a = rw (must_be_in_play m.state a.unfinished a.started) (simp (below))
+kind_back m r n (Yellow Away) a = rw (must_be_in_play m.state a.unfinished a.started) (simp (below))
+kind_back m r n (SecondYellow Home) a = rw (must_be_in_play m.state a.unfinished a.started) (simp (below, previous_below m.home_yellows a.caution))
+kind_back m r n (SecondYellow Away) a = rw (must_be_in_play m.state a.unfinished a.started) (simp (below, previous_below m.away_yellows a.caution))
+kind_back m r n (Red Home) a = rw (must_be_in_play m.state a.unfinished a.started) (simp (below))
+kind_back m r n (Red Away) a = rw (must_be_in_play m.state a.unfinished a.started) (simp (below))
 
 -- after an accepted event the record has the number of its reporter
 reporter_after : (m : MatchRecord) (reporter : ℕ) (kind : Kind) → (after m reporter kind).reporter ≡ reporter

@@ -15,13 +15,13 @@ pub word_below : (word : ℕ) → IsWord word → word < 2 ^ 62
 word_below word is = let high = word_high word is in omega arith
 
 -- the goals, yellow cards and expulsions of a side are what the fields of the side hold
-held : (side : Side) (word : ℕ) → (goals side (record_at word) ≡ bits_at word (goals_field side).low layout.home_goals.width)
+counts_in_bits : (side : Side) (word : ℕ) → (goals side (record_at word) ≡ bits_at word (goals_field side).low layout.home_goals.width)
     × (yellows side (record_at word) ≡ bits_at word (yellows_field side).low layout.home_yellows.width)
     × (expulsions side (record_at word) ≡ bits_at word (expulsions_field side).low layout.home_expulsions.width)
 unfolding record_at
-held side word = (search arith, search arith, search arith)
+counts_in_bits side word = (search arith, search arith, search arith)
 
--- a goal, a yellow card and an expulsion each raise the word by a power of two, and a kick-off and full time do so too
+-- a goal, a yellow card and a red card each add one in the side's field: they raise the word by two to the power of the field's lowest bit
 added : (side : Side) (m : MatchRecord) → (word_of (changed_by (Goal side) m) ≡ word_of m + 2 ^ (goals_field side).low)
     × (word_of (changed_by (Yellow side) m) ≡ word_of m + 2 ^ (yellows_field side).low)
     × (word_of (changed_by (Red side) m) ≡ word_of m + 2 ^ (expulsions_field side).low)
@@ -53,25 +53,28 @@ yellow_turned : (side : Side) (m : MatchRecord) → 0 < yellows side m
 unfolding word_of
 yellow_turned side m some = search arith
 
+-- the test for 0 is false of a positive number
 is_some : (n : ℕ) → 0 < n → (n == 0) ≡ false
 is_some n some = grind (arith, nat_tests)
 
--- a kind's change leaves the number and the reporter
+-- what an event of any kind changes in a record leaves its event number and its reporter as they are
 kept : (kind : Kind) (m : MatchRecord) → ((changed_by kind m).number ≡ m.number) × ((changed_by kind m).reporter ≡ m.reporter)
 kept kind m = search arith
 
--- the next word is the changed one with one event more, and another reporter
+-- the word after an event is that of the record with the event's change, but with the event number one more, and with the new reporter in
+-- place of the old one
 entered_word : (kind : Kind) (m : MatchRecord) (reporter : ℕ)
     → word_of (after m reporter kind) + m.reporter * 2 ^ layout.reporter.low ≡ word_of (changed_by kind m) + 1 + reporter * 2 ^ layout.reporter.low
 unfolding word_of after
 entered_word kind m reporter = let k = kept kind m in omega arith
 
--- after an accepted event the word is greater than its reporter's number at its place in the word
+-- the word after an event is greater than what its field of the reporter adds to it
 reporter_below : (kind : Kind) (m : MatchRecord) (reporter : ℕ) → reporter * 2 ^ layout.reporter.low < word_of (after m reporter kind)
 unfolding word_of after
 reporter_below kind m reporter = omega arith
 
--- `next` is valid; its word is `changed`, with one event more and `reporter` in place of `before`, the reporter that stood there
+-- `next` is valid; its word is `changed`, with one event more and `reporter` in place of `before`, the reporter that stood there; the word
+-- is below two to the power of 62, and above what its field of the reporter adds to it
 pub record Entered (changed before reporter : ℕ) (next : MatchRecord) : Type 0 where
   pub valid : IsValid next
   pub sum : word_of next + before * 2 ^ layout.reporter.low ≡ changed + 1 + reporter * 2 ^ layout.reporter.low
@@ -108,41 +111,41 @@ module _ (word : ℕ) (is : IsWord word) where
   reopen_changes state = let below = reopen_below state in (refl, by_difference (2 ^ layout.state.low) _ (changed_by Reopen m) (omega arith) (reopened m state))
 
   pub goal_changes : (side : Side) (result : Result ℕ Refusal) → Raises word (goals_field side).low layout.home_goals.width 63 result → Changes word (Goal side) result
-  goal_changes side (Ok next) r = (rw ((held side word).0, lt-leb _ _ r.0) refl, by_sum _ next _ r.1 (added side m).0)
-  goal_changes side (Err refusal) r = rw ((held side word).0, le-leb _ _ r.0, r.1) refl
+  goal_changes side (Ok next) r = (rw ((counts_in_bits side word).0, lt-leb _ _ r.0) refl, by_sum _ next _ r.1 (added side m).0)
+  goal_changes side (Err refusal) r = rw ((counts_in_bits side word).0, le-leb _ _ r.0, r.1) refl
 
   pub disallow_changes : (side : Side) (result : Result ℕ Refusal) → Lowers word (goals_field side).low layout.home_goals.width NoGoal result → Changes word (Disallow side) result
   disallow_changes side (Ok next) l =
-      let some : 0 < goals side m = rw (held side word).0 l.0 in
+      let some : 0 < goals side m = rw (counts_in_bits side word).0 l.0 in
       (rw (is_some _ some) refl, by_difference _ next _ l.1 (goal_taken side m some))
-  disallow_changes side (Err refusal) l = rw ((held side word).0, eq-eqb _ 0 l.0, l.1) refl
+  disallow_changes side (Err refusal) l = rw ((counts_in_bits side word).0, eq-eqb _ 0 l.0, l.1) refl
 
   pub yellow_changes : (side : Side) (result : Result ℕ Refusal) → Raises word (yellows_field side).low layout.home_yellows.width 63 result → Changes word (Yellow side) result
-  yellow_changes side (Ok next) r = (rw ((held side word).1, lt-leb _ _ r.0) refl, by_sum _ next _ r.1 (added side m).1)
-  yellow_changes side (Err refusal) r = rw ((held side word).1, le-leb _ _ r.0, r.1) refl
+  yellow_changes side (Ok next) r = (rw ((counts_in_bits side word).1, lt-leb _ _ r.0) refl, by_sum _ next _ r.1 (added side m).1)
+  yellow_changes side (Err refusal) r = rw ((counts_in_bits side word).1, le-leb _ _ r.0, r.1) refl
 
   pub red_changes : (side : Side) (result : Result ℕ Refusal) → Raises word (expulsions_field side).low layout.home_expulsions.width 31 result → Changes word (Red side) result
-  red_changes side (Ok next) r = (rw ((held side word).2, lt-leb _ _ r.0) refl, by_sum _ next _ r.1 (added side m).2)
-  red_changes side (Err refusal) r = rw ((held side word).2, le-leb _ _ r.0, r.1) refl
+  red_changes side (Ok next) r = (rw ((counts_in_bits side word).2, lt-leb _ _ r.0) refl, by_sum _ next _ r.1 (added side m).2)
+  red_changes side (Err refusal) r = rw ((counts_in_bits side word).2, le-leb _ _ r.0, r.1) refl
 
   -- no second yellow where none stands
   pub no_caution : (side : Side) (refusal : Refusal) → bits_at word (yellows_field side).low layout.home_yellows.width ≡ 0 → refusal ≡ NoCaution → Changes word (SecondYellow side) (Err refusal)
-  no_caution side refusal none missing = rw ((held side word).1, eq-eqb _ 0 none, missing) refl
+  no_caution side refusal none missing = rw ((counts_in_bits side word).1, eq-eqb _ 0 none, missing) refl
 
   -- a second yellow card, where a yellow one stands
   module _ (side : Side) (some : 0 < bits_at word (yellows_field side).low layout.home_yellows.width) where
     cautioned : 0 < yellows side m
-    cautioned = rw (held side word).1 some
+    cautioned = rw (counts_in_bits side word).1 some
 
     pub no_expulsion : (refusal : Refusal) → (31 ≤ bits_at word (expulsions_field side).low layout.home_expulsions.width) × (refusal ≡ LimitReached)
         → Changes word (SecondYellow side) (Err refusal)
-    no_expulsion refusal r = rw (is_some _ cautioned, (held side word).2, le-leb _ _ r.0, r.1) refl
+    no_expulsion refusal r = rw (is_some _ cautioned, (counts_in_bits side word).2, le-leb _ _ r.0, r.1) refl
 
     pub second_yellow_changes : (fewer more : ℕ) → fewer + 2 ^ (yellows_field side).low ≡ word
         → (bits_at word (expulsions_field side).low layout.home_expulsions.width < 31) × (more ≡ word + 2 ^ (expulsions_field side).low)
         → Changes word (SecondYellow side) (Ok (fewer + (more - word)))
     second_yellow_changes fewer more less r = (
-      rw (is_some _ cautioned, (held side word).2, lt-leb _ _ r.0) refl,
+      rw (is_some _ cautioned, (counts_in_bits side word).2, lt-leb _ _ r.0) refl,
       let a = again in let sum = yellow_turned side m cautioned in let one = r.1 in omega arith,
     )
 

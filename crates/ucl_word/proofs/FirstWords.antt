@@ -6,13 +6,13 @@ use Rattle.std.proofs.lemmas.Bool.{and_parts, cases_Bool, false_from_ne_true, le
 use Rattle.ucl_word.specs.Layout.{first_layout}
 use Rattle.std.specs.Prelude.{IfErr, IfOk, is_ok, ◌↔◌}
 use Rattle.ucl_word.specs.Record.{is_valid}
-use Rattle.ucl_word.specs.Migration.{moved_up, max_number_in_play_of_first_layout, first_word_of, IsFirstValid, IsFirstWord, is_word, is_first_word}
+use Rattle.ucl_word.specs.Migration.{moved_up, max_number_in_first_layout, first_word_of, IsFirstValid, IsFirstWord, is_word, is_first_word}
 unfoldable use Rattle.ucl_word.specs.Migration.{first_record_at, read_word}
 use Rattle.ucl_word.specs.Theorems.{LayoutsDiffer}
 use Rattle.ucl_word.proofs.Words.{Tells, bounds, record_told, told_back, word_high, word_packed, word_valid}
 
 -- an event number that the first layout has room for fits its field there
-most_numbers : (s : State) (n : ℕ) → n ≤ max_number_in_play_of_first_layout s → n < 2 ^ first_layout.number.width
+most_numbers : (s : State) (n : ℕ) → n ≤ max_number_in_first_layout s → n < 2 ^ first_layout.number.width
 most_numbers s n h = search arith
 
 -- what the word of a record in the first layout tells is this record
@@ -24,17 +24,18 @@ module _ (m : MatchRecord) (is : IsFirstValid m) where
   pub first_back : record_told first_layout.number.width (first_word_of m) ≡ m
   first_back = told_back first_layout.number.width 0 (first_word_of m) m first_told
 
--- a word of the first layout moves to the word of the same record
+-- the word of a record in the first layout, with its fields moved to the present layout, is the word of the same record there
 pub first_moves : (m : MatchRecord) → IsFirstValid m → moved_up (first_word_of m) ≡ word_of m
 unfolding first_word_of word_of
 first_moves m is = let below = most_numbers m.state m.number is.number in omega arith
 
--- and what moves to the word of a record that had room is the word of this record
-pub moved_from : (word : ℕ) (m : MatchRecord) → m.number ≤ max_number_in_play_of_first_layout m.state → word_of m ≡ moved_up word → first_word_of m ≡ word
+-- let the first layout have room for the event number of a record; a word that is, with its fields moved from the first to the present
+-- layout, the record's word there, is the record's word in the first layout
+pub moved_from : (word : ℕ) (m : MatchRecord) → m.number ≤ max_number_in_first_layout m.state → word_of m ≡ moved_up word → first_word_of m ≡ word
 unfolding first_word_of word_of
 moved_from word m room is = let below = most_numbers m.state m.number room in omega arith
 
--- the moved word of the first layout is a word of the present one
+-- a word of the first layout, with its fields moved to the present one, is the word there of the record that it was packed from
 pub word_moves : (word : ℕ) → (first : IsFirstWord word) → word_of first.of ≡ moved_up word
 word_moves word first = sym (first_moves first.of first.valid) ∙ ap (λ (w : ℕ). moved_up w) first.packed
 
@@ -46,7 +47,7 @@ moves_to_word word first = record { of = first.of; valid = first.valid.valid; pa
 pub first_high : (word : ℕ) → IsFirstWord word → HasLayoutTag first_layout word
 first_high word is = rw (← is.packed) (first_told is.of is.valid).high_is
 
--- two records with one word in the first layout are one
+-- two records that pack to the same word in the first layout are the same record
 pub first_apart : (m n : MatchRecord) → IsFirstValid m → IsFirstValid n → first_word_of m ≡ first_word_of n → m ≡ n
 first_apart m n v w e = sym (first_back m v) ∙ (ap (record_told first_layout.number.width) e ∙ first_back n w)
 
@@ -54,17 +55,17 @@ first_apart m n v w e = sym (first_back m v) ∙ (ap (record_told first_layout.n
 pub layouts_apart : LayoutsDiffer
 layouts_apart word is first = let a = word_high word is in let b = first_high word first in omega arith
 
--- a word that was unpacked is of a valid record
+-- let r be the result of unpacking a word: if it is Ok, the word is that of a valid record
 pub word_unpacked : (r : Result MatchRecord BadWord) (word : ℕ) → IfOk r IsValid → IfOk r (λ m. word_of m ≡ word) → is_ok r ≡ true → IsWord word
 word_unpacked (Ok m) word valid packed is = record { of = m; valid = valid; packed = packed }
 word_unpacked (Err bad) word valid packed is = absurd (true≢false (sym is))
 
--- where a word is not unpacked, and an error means that it is no word, it is no word of the present layout
+-- let r be the result of unpacking a word, whose error means that the word is of no valid record: if it is not Ok, the word is of none
 pub word_refused : (r : Result MatchRecord BadWord) (word : ℕ) → IfErr r (λ _. IsWord word → ⊥) → is_ok r ≡ false → IsWord word → ⊥
 word_refused (Ok m) word refused is = absurd (true≢false is)
 word_refused (Err bad) word refused is = refused
 
--- the tests of the two layouts hold just of their words
+-- the test of the present layout is true of exactly the words of valid records in it
 pub word_tested : (word : ℕ) → (is_word word ≡ true) ↔ IsWord word
 word_tested word = (
   λ h. let p = and_parts (is_valid (record_at word)) (word_of (record_at word) == word) h in
@@ -81,12 +82,12 @@ record_of_first word is = ap (record_told first_layout.number.width) (sym is.pac
 pub first_tested : (word : ℕ) → (is_first_word word ≡ true) ↔ IsFirstWord word
 first_tested word = (
   λ h. let m = first_record_at word in
-      let most = max_number_in_play_of_first_layout m.state in
+      let most = max_number_in_first_layout m.state in
       let p = and_parts (is_valid m && nat_le m.number most) (first_word_of m == word) h in
       let q = and_parts (is_valid m) (nat_le m.number most) p.0 in
       record { of = m; valid = record { valid = q.0; number = leb-true m.number most q.1 }; packed = eqb-true (first_word_of m) word p.1 },
   λ is. let m = is.of in
-      let room = le-leb m.number (max_number_in_play_of_first_layout m.state) is.valid.number in
+      let room = le-leb m.number (max_number_in_first_layout m.state) is.valid.number in
       rw (record_of_first word is, is.valid.valid, room, eq-eqb (first_word_of m) word is.packed) refl,
 )
 

@@ -10,9 +10,9 @@ unfolding is_valid
 parts m v = and_parts (is_within_limits m) (suits_state m.state m) v
 
 -- a record within the limits whose numbers suit its state is valid
-pub whole : (m : MatchRecord) → is_within_limits m ≡ true → suits_state m.state m ≡ true → IsValid m
+pub valid_by_parts : (m : MatchRecord) → is_within_limits m ≡ true → suits_state m.state m ≡ true → IsValid m
 unfolding is_valid
-whole m w s = and_from (is_within_limits m) (suits_state m.state m) w s
+valid_by_parts m w s = and_from (is_within_limits m) (suits_state m.state m) w s
 
 -- the numbers of a valid record are within their limits
 module _ (m : MatchRecord) (v : IsValid m) where

@@ -1,6 +1,5 @@
--- The nine rules by which a match refuses an event, in two parts: six on its event number and state, and three on the change that is made.
--- The last three refuse to disallow a goal that is not there, a second yellow with no yellow before it, and what passes a limit.
--- A word is a match packed into 64 bits. A field of it is named by its lowest bit and its width, which is how many bits it has.
+-- The nine rules by which a match refuses an event, in two parts: six on its event number and state, and three on the change that is made:
+-- a goal to disallow that is not there, a second yellow without a first, and a limit. A field is named by its lowest bit and its width.
 use Rattle.std.specs.Prelude.{◌≡◌, ℕ, ◌+◌, ◌^◌, ◌<◌, ◌≤◌, [], ◌∷◌, Option, Some, None, Result, MatchResult}
 use Rattle.ucl_word.specs.declared.record.MatchRecord.{MatchRecord}
 use Rattle.ucl_word.specs.declared.record.State.{State}
@@ -20,7 +19,8 @@ state_for KickOff = Scheduled
 state_for Reopen = Finished
 state_for _ = InPlay
 
--- the refusal of an event of this kind by the first of the last three rules that holds, or none if none of them holds
+-- the refusal of an event for the change that it makes, or none: no goal to disallow, no standing yellow for a second yellow, or a limit
+-- passed; if several hold, the first of these
 abbrev pub change_refusal : MatchRecord → Kind → Option Refusal
 change_refusal game kind = first_of (
     (lacks_goal game kind, NoGoal)
@@ -55,8 +55,8 @@ Lowers word low width missing result = MatchResult result
     (λ next. (0 < bits_at word low width) × (next + 2 ^ low ≡ word))
     (λ refusal. (bits_at word low width ≡ 0) × (refusal ≡ missing))
 
--- the result is `word` with the change that an event of this kind makes, the event number and reporter left as they are; or, if one of the
--- last three rules refuses the event, the refusal by the first that does
+-- the result is `word` with the change that an event of this kind makes, the event number and reporter left as they are; or the refusal
+-- of this change: no goal to disallow, no standing yellow for a second yellow, or a limit passed
 abbrev pub Changes : ℕ → Kind → Result ℕ Refusal → Type 0
 Changes word kind result = MatchResult result
     (λ next. (change_refusal (record_at word) kind ≡ None) × (next ≡ word_of (changed_by kind (record_at word))))

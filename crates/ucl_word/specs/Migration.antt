@@ -1,6 +1,4 @@
 -- Words of the first layout, in which older boards were saved, and the words of the present layout that they are read as.
--- A word is a match packed into 64 bits, and a layout says where its fields stand. A record of a match is valid if a match can have it.
--- The event number of a match is how many events it accepted. A layout's tag is a number above the fields of its words.
 use Rattle.std.specs.Prelude.{◌≡◌, ℕ, ◌≤◌, ◌+◌, ◌*◌, ◌/◌, ◌%◌, ◌^◌, ◌==◌, ◌&&◌, nat_le, if◌then◌else◌, Bool, Option, Some, None}
 use Rattle.ucl_word.specs.declared.record.MatchRecord.{MatchRecord}
 use Rattle.ucl_word.specs.declared.record.State.{State}
@@ -9,15 +7,15 @@ use Rattle.ucl_word.specs.Record.{is_valid, IsValid}
 use Rattle.ucl_word.specs.Layout.{first_layout, layout, word_in, word_of, record_in, record_at}
 
 -- the greatest event number that the first layout has room for in a state: 1023, and in play one less, so that full time has a number left
-abbrev pub max_number_in_play_of_first_layout : State → ℕ
-max_number_in_play_of_first_layout Scheduled = 1023
-max_number_in_play_of_first_layout InPlay = 1022
-max_number_in_play_of_first_layout Finished = 1023
+abbrev pub max_number_in_first_layout : State → ℕ
+max_number_in_first_layout Scheduled = 1023
+max_number_in_first_layout InPlay = 1022
+max_number_in_first_layout Finished = 1023
 
 -- a record that a match could have in the first layout, which had room for fewer event numbers
 pub record IsFirstValid (game : MatchRecord) : Type 0 where
   pub valid : IsValid game
-  pub number : game.number ≤ max_number_in_play_of_first_layout game.state
+  pub number : game.number ≤ max_number_in_first_layout game.state
 
 -- the word that a record of a match packs to in the first layout
 unfoldable pub first_word_of : MatchRecord → ℕ
@@ -40,7 +38,7 @@ is_word word = is_valid (record_at word) && (word_of (record_at word) == word)
 -- whether a word is, in the first layout, the packing of a record that was valid there
 abbrev pub is_first_word : ℕ → Bool
 is_first_word word =
-    let m = first_record_at word in is_valid m && nat_le m.number (max_number_in_play_of_first_layout m.state) && (first_word_of m == word)
+    let m = first_record_at word in is_valid m && nat_le m.number (max_number_in_first_layout m.state) && (first_word_of m == word)
 
 -- what a word is read as: itself in the present layout, or the same record's word there if it is of the first; None if it is of neither
 unfoldable pub read_word : ℕ → Option ℕ

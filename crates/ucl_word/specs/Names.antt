@@ -1,6 +1,4 @@
--- Numbers, names and texts of refusals; codes and names of kinds of events.
--- The event number of a match is how many events it accepted. An event is stale, and refused, if its match has another one than its
--- reporter expected, which is the number found. A kind of event has a code, 0 to 12. Texts are lists of the codes of their characters.
+-- Numbers, names and texts of refusals; codes and names of kinds of events. Texts are lists of the codes of their characters.
 use Rattle.std.specs.Prelude.{ℕ, ◌==◌, List, [], ◌∷◌, ◌++◌, codes, decimal, find, slice_get, Option, None, Some}
 use Rattle.std.specs.Str.{bytes_eq}
 use Rattle.ucl_word.specs.declared.event.Side.TheVariants.{Home, Away}

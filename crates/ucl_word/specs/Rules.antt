@@ -1,6 +1,4 @@
--- The rules of events: which are refused, and what an accepted one changes in the record of its match, its state and numbers.
--- A match's event number is how many events it accepted; an event expects one, and is stale if the match has another. A standing yellow is
--- a yellow card that no second yellow turned into an expulsion.
+-- The rules of events: which are refused, and what an accepted one changes in the record of its match.
 use Rattle.std.specs.Prelude.{ℕ, ◌+◌, ◌-◌, ◌==◌, ◌&&◌, not, nat_le, Bool, true, false, if◌then◌else◌, List, [], ◌∷◌, Option, Some, None, Result, Ok, Err}
 use Rattle.ucl_word.specs.declared.record.MatchRecord.{MatchRecord}
 use Rattle.ucl_word.specs.declared.record.State.{State}

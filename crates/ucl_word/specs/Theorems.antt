@@ -1,6 +1,4 @@
 -- Theorems on all records, words and lists of entries.
--- A word is a match packed into 64 bits; a layout says where its fields stand. A record of a match is valid if a match can have it.
--- An entry is an accepted event; a list of them is legal if each is accepted after those before it.
 use Rattle.std.specs.Prelude.{◌≡◌, ◌↔◌, ℕ, ◌+◌, ◌≤◌, true, List, Some, None}
 use Rattle.ucl_word.specs.declared.record.MatchRecord.{MatchRecord}
 use Rattle.ucl_word.specs.declared.record.State.{State}
@@ -25,7 +23,8 @@ WordsAreRead = (game : MatchRecord) → IsValid game → record_at (word_of game
 abbrev pub LayoutsDiffer : Type 0
 LayoutsDiffer = (word : ℕ) → IsWord word → IsFirstWord word → ⊥
 
--- the test of a layout holds of just the words of that layout, and what a word is read as is the word of a valid record
+-- the test of each layout is true of exactly the words of valid records in this layout (present, first); and whatever reading a word
+-- gives, which converts it to the present layout, is the word of a valid record (read)
 pub record WordsAreTested : Type 0 where
   pub present : (word : ℕ) → (is_word word ≡ true) ↔ IsWord word
   pub first : (word : ℕ) → (is_first_word word ≡ true) ↔ IsFirstWord word
@@ -40,7 +39,8 @@ abbrev pub ReopenedCanBeEnded : Type 0
 ReopenedCanBeEnded = (game : MatchRecord) (reporter : ℕ) → IsValid game → IsReporter reporter → refusal_of game game.number Reopen ≡ None
     → IsValid (after game reporter Reopen) × (refusal_of (after game reporter Reopen) (game.number + 1) FullTime ≡ None)
 
--- how often a match in a state was kicked off, ended and reopened: never; or once, and ended as often as reopened, or once more
+-- how often a match was kicked off, ended and reopened, by its state. Scheduled: never. In play: it was kicked off once, and ended as often
+-- as reopened. Finished: it was kicked off once, and ended once more than reopened
 abbrev pub CaseOf : State → ℕ → ℕ → ℕ → Type 0
 CaseOf Scheduled kick_offs full_times reopenings = (kick_offs ≡ 0) × (full_times ≡ 0) × (reopenings ≡ 0)
 CaseOf InPlay kick_offs full_times reopenings = (kick_offs ≡ 1) × (full_times ≡ reopenings)

@@ -1,6 +1,5 @@
-//! What reporters enter: the kinds of events, an event for one match, and the reply to an accepted one. A kind has a *name*, as in an event
-//! file, and a *code*, 0 to 12, as in a call from C. The *event number* of a match is how many events it accepted. An event expects one,
-//! and is *stale*, and refused, if its match has another. Refusals are in `refusal`, and what an event changes is in `rules`.
+//! What reporters enter: the kinds of events, an event for one match, and the reply to an accepted one. A kind has a name, as in an event
+//! file, and a code, as in a call from C. Refusals are in `refusal`, and what an event changes is in `rules`.
 
 ghost use Rattle.std.specs.Prelude.{◌≡◌};
 ghost use Rattle.ucl_word.specs.Names.{kind_name, kind_named, kind_with};

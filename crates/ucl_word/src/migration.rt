@@ -1,12 +1,11 @@
-//! Words of the first layout, in which older boards were saved, and how they become words of the present one. A *word* is a match packed
-//! into 64 bits, and a *layout* says where its fields stand. Above its fields a word of the present layout has the *layout tag* 2, and
-//! one of the first only zeros. The *event number* of a match is how many events it accepted; a record is *valid* if a match can have it.
+//! Words of the first layout, in which older boards were saved, and how they become words of the present one. The tag of the present layout
+//! is 2; a word of the first has zeros there.
 
 ghost use Rattle.std.specs.Prelude.{◌≡◌, ◌≤◌, ◌↔◌, IsTrue, Ok, IfOk, IfErr};
 ghost use Rattle.std.specs.Result.{result_ok};
 ghost use Rattle.ucl_word.specs.declared.record.MatchRecord.{MatchRecord};
 ghost use Rattle.ucl_word.specs.Layout.{first_layout, word_of, HasLayoutTag, IsWord};
-ghost use Rattle.ucl_word.specs.Migration.{moved_up, max_number_in_play_of_first_layout, first_word_of, IsFirstValid, IsFirstWord, read_word};
+ghost use Rattle.ucl_word.specs.Migration.{moved_up, max_number_in_first_layout, first_word_of, IsFirstValid, IsFirstWord, read_word};
 
 use crate::record::{MatchRecord, State};
 use crate::refusal::BadWord;
@@ -19,16 +18,16 @@ const FIRST_NUMBER_WIDTH: u32 = 10;
 const FIRST_FIELDS_END: u32 = 54;
 
 /// The greatest event number that the first layout had room for.
-const MAX_NUMBER: u16 = 1023;
+const MAX_NUMBER_IN_FIRST_LAYOUT: u16 = 1023;
 
 /// Returns whether the first layout had room for the event number of this match: whether it is at most 1023, or at most 1022 in play, so
 /// that full time has a number left.
 fn has_room(game: &MatchRecord) -> bool
-    ensures { IsTrue result ↔ game.now.number ≤ max_number_in_play_of_first_layout game.now.state }
+    ensures { IsTrue result ↔ game.now.number ≤ max_number_in_first_layout game.now.state }
 {
     match game.state {
-        State::InPlay => game.number <= MAX_NUMBER - 1,
-        _ => game.number <= MAX_NUMBER,
+        State::InPlay => game.number <= MAX_NUMBER_IN_FIRST_LAYOUT - 1,
+        _ => game.number <= MAX_NUMBER_IN_FIRST_LAYOUT,
     }
 }
 

@@ -1,6 +1,4 @@
-//! The record of one match: its state and numbers, and which of them a match can have. How it is packed is in `word`. The *event number*
-//! of a match is how many events it accepted. A *standing yellow* is a yellow card that no second yellow turned into an expulsion. A
-//! *reporter*, who enters events, has a number from 1 to 255.
+//! The record of one match: its state and numbers, and which of them a match can have. How it is packed is in `word`.
 
 ghost use Rattle.std.specs.Prelude.{◌≡◌};
 ghost use Rattle.ucl_word.specs.Record.{is_valid, is_within_limits, suits_state};

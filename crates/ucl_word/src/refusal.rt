@@ -1,6 +1,4 @@
-//! Why events, words and calls are refused. Each refusal has a number, with which its comment begins, and a name. A *word* is a match
-//! packed into 64 bits. The *event number* of a match is how many events it accepted. An event expects one; if the match has another,
-//! the number *found*, the event is *stale*.
+//! Why events, words and calls are refused. Each refusal has a number, with which its comment begins, and a name.
 
 ghost use Rattle.std.specs.Prelude.{◌≡◌, ◌≤◌, Some, length};
 ghost use Rattle.ucl_word.specs.Names.{found_of, refusal_code, refusal_name, refusal_text, refusal_with};

@@ -1,4 +1,4 @@
-//! `ReporterNo`, the number of a reporter, who enters events. A board has up to 255 of them.
+//! `ReporterNo`, the number of a reporter: 1 to 255.
 
 ghost use Rattle.std.specs.Prelude.{◌≡◌, ℕ, ◌≤◌, ◌↔◌, IsSome, IfSome};
 

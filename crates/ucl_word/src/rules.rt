@@ -1,7 +1,5 @@
-//! The rules of events: which are refused, and what an accepted one changes in the word of its match. The *rules* are the nine conditions
-//! of `Refusal`, tried in order: the first that holds refuses the event. A *word* is a match packed into 64 bits, with a field for each of
-//! its numbers; a field is named by its *lowest bit* and how many bits it has. A record of a match is *valid* if a match can have it. The
-//! *event number* of a match is how many events it accepted; an event is refused as stale if it expects another.
+//! The rules of events: which are refused, and what an accepted one changes in the word of its match. The rules are the nine conditions of
+//! `Refusal`, tried in order: the first that holds refuses the event. A field is named by its lowest bit and how many bits it has.
 
 ghost use Rattle.std.specs.Prelude.{◌≡◌, ◌<◌, ◌^◌, IfOk, IfErr, Some, None, MatchResult};
 ghost use Rattle.ucl_word.specs.Record.{IsValid};

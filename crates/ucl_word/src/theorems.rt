@@ -1,6 +1,4 @@
-//! Theorems on all records, words and lists of entries. The functions do nothing: each is there for its contract. A *word* is a match
-//! packed into 64 bits; a *layout* says where its fields stand, and there are the first and the present one. A record of a match is *valid*
-//! if a match can have it. An *entry* is an accepted event; a list of entries is *legal* if each is accepted after those before it.
+//! Theorems on all records, words and lists of entries. The functions do nothing: each is there for its contract.
 
 ghost use Rattle.ucl_word.specs.Theorems.{WordsDiffer, WordsAreRead, LayoutsDiffer, WordsAreTested, CanBeEnded, ReopenedCanBeEnded, OneCaseHolds, CountsAreValid, CountsAreBalanced};
 
@@ -21,7 +19,8 @@ pub fn layouts_differ()
     ensures { LayoutsDiffer }
 {}
 
-/// The test of a layout holds of just the words of that layout, and what a word is read as is the word of a valid record.
+/// The test of each layout is true of exactly the words of valid records in this layout. Whatever reading a word gives, which converts it
+/// to the present layout, is the word of a valid record.
 pub fn words_are_tested()
     ensures { WordsAreTested }
 {}

@@ -1,6 +1,5 @@
-//! A match as one word of 64 bits: where its fields stand, and how a record is packed and unpacked. What an event changes in a word is in
-//! `rules`. Bits are counted from 0. The *event number* of a match is how many events it accepted; a record is *valid* if a match can have
-//! it. Above its fields a word has the *layout tag*, a number that tells words of this *layout*, as the fields stand now, from older words.
+//! A match as one word: where its fields stand, counted from bit 0, and how a record is packed and unpacked. What an event changes in a
+//! word is in `rules`.
 
 ghost use Rattle.std.specs.Prelude.{◌≡◌, ◌*◌, ◌+◌, ◌^◌, ◌<◌, ◌≤◌, ◌/◌, ◌↔◌, IsTrue, IfOk, IfErr};
 ghost use Rattle.ucl_word.specs.Record.{max_number, IsValid};

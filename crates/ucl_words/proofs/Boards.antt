@@ -18,11 +18,11 @@ use Rattle.ucl_words.proofs.Clients.{counted_does, done_shown}
 use Rattle.ucl_live_board.proofs.CallsBySteps.{enlists, stays_on as stays_seen}
 use Rattle.ucl_live_board.proofs.InvariantIsKept.{split_occurs}
 
--- a step that leaves no access leaves the trail as it was
+-- a step that is no access (none on a match word) leaves the trail of its pass as it was
 no_access : (v w : View) (x : Taken) → accesses_in (x ∷ []) ≡ [] → Takes v (x ∷ []) w → trail_of w ≡ trail_of v
 no_access v w x none t = takes_trail v w (x ∷ []) t ∙ (ap (λ (l : List Access). trail_of v ++ l) none ∙ append-nil (trail_of v))
 
--- a pass is consistent after such a step
+-- if the trail of a pass agreed with the history, the pass is consistent after a step on no match word
 after_count : (v w : View) (x : Taken) → HasTrail v → Goes v w → accesses_in (x ∷ []) ≡ [] → Takes v (x ∷ []) w → IsConsistent w
 after_count v w x was goes none takes = record {
   sound = sound versions_shown v w goes;
@@ -54,7 +54,7 @@ tries_full : (known n : ℕ) (steps : List Taken) → MissedTries known steps n 
 tries_full known n [] same high = ((let e = same in omega arith), refl)
 tries_full known n (x ∷ steps) t high = (t.0, t.1, t.2, inr (t.3, tries_full t.0 n steps t.4 high))
 
--- exchanges of the number of reporters that were all missed: it was last found to be n
+-- from v to x a pass made only exchanges of the number of reporters that were missed: the last found n, which is 0 if there was none
 pub record Missed (v x : View) (n : ℕ) : Type 0 where
   pub consistent : IsConsistent x
   pub stays : Stays v x
@@ -122,7 +122,7 @@ module _ (v x w : View) (n found : ℕ) (was : Missed v x n) (same : found ≡ n
         (tries_won 0 n found won.gives.place (length (history_of w.log)) was.steps was.tries below same);
   }
 
--- a second pass, whose steps are those that it has a copy of
+-- the pass that is split off a consistent pass is consistent
 pub second_consistent : (v : View) → IsConsistent v → IsConsistent (second_pass v)
 second_consistent v consistent = record {
   sound = sound_second versions_shown v consistent.sound;
@@ -134,7 +134,7 @@ second_consistent v consistent = record {
 pub left_consistent : (v : View) → IsConsistent v → IsConsistent (left_pass v)
 left_consistent v consistent = record { sound = sound_left versions_shown v consistent.sound; told = consistent.told; trail = consistent.trail }
 
--- a split says what a word board promises of it
+-- if m is what a split leaves of a pass k, and n the pass that it splits off, all that a split of a word board promises holds
 pub was_split : (k m n : WordPass) → IsSound (pass_view_of k.pass) → m.board ≡ k.board → n.board ≡ k.board → m.seat ≡ k.seat
     → m.pass ≡ left_pass k.pass → n.pass ≡ second_pass k.pass → WordSplit k m n
 was_split k m n sound own other seat left given = record {

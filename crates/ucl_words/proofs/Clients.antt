@@ -15,7 +15,7 @@ use Rattle.ucl_steps.specs.declared.step.Call.TheVariants as calls
 use Rattle.ucl_steps.specs.declared.trace.Reply.TheVariants as replies
 use Rattle.ucl_steps.specs.Protocol as protocol
 
--- the first step of a call is at this place if none was under way before it, and else where the call began
+-- if a pass held h and then takes a step at `place`, its call began there if h is NoCall, and else at `was`, where it had begun
 begun_place : (h : Pending) (known was place : ℕ) → known ≤ place → IsBegun h known was (first_place h was place)
 begun_place h known was place le = search arith
 
@@ -62,7 +62,7 @@ answered_shown v w call reply a same =
     (append-nil (shown_of d.number a.last) ∙ ((λ i. cond (a.asked.2 i == d.number) (version_in (a.asked.1 i)) [])
     ∙ ap (λ (b : Bool). cond b (version_in reply) []) (eq-eqb d.number d.number refl))))
 
--- if a pass holds something, the call under way is the one that it had begun
+-- if a call was under way before (h is not NoCall), it is still the same call: its first step is at the place `was`
 under_way : (h : Pending) (known was first : ℕ) → h ≢ NoCall → IsBegun h known was first → first ≡ was
 under_way h known was first any begun = search arith
 
@@ -295,7 +295,7 @@ module _ (v x : View) (none : (client_of v.own).held ≡ NoCall) where
   tries_on h u (inl same) stays = subst (λ (z : View). StaysIn z h u) same stays
   tries_on h u (inr t) stays = stays_on v x u (Collecting []) h (collecting []) t stays
 
--- a try whose second collect found another word leads from v back to no words
+-- after a second collect that found a word changed the reading is still under way, and the pass holds no word of its next try
 pub tries_again : (v u w : View) (words : List ℕ) (point : ℕ) → StaysIn v (Checking words 0 point) u → StaysIn u (Collecting []) w → StaysIn v (Collecting []) w
 tries_again v u w words point a b = stays_on v u w (Checking words 0 point) (Collecting []) (checking words 0 point) a b
 

@@ -17,7 +17,7 @@ pub record Collected (kind : AccessKind) (v : View) (words : List ℕ) (count : 
   pub words_are : IsCollect kind words accesses
   pub last : (m : Access) → slice_get accesses 11 ≡ Some m → m.at ≡ length (history_of w.log)
 
--- no load leads from a consistent pass to itself
+-- before the first load of a collect a consistent pass has found 0 words
 pub collected_none : (kind : AccessKind) (v : View) (words : List ℕ) → IsConsistent v → Collected kind v words 0 v
 collected_none kind v words consistent = record
     { accesses = []; walks = walks_none v consistent; many = refl; words_are = collect_none kind words; last = λ m e. absurd (none-some m e) }
@@ -124,7 +124,7 @@ pub record Reads (v : View) (reading : Reading) (w : View) : Type 0 where
   pub least : count_of v + 24 ≤ count_of w
   pub most : count_of w ≤ count_of v + max_loads
 
--- the first one of these accesses, or `m` if there is none
+-- the access, or `m` if there is none
 abbrev first_or : Access → Option Access → Access
 first_or m (Some a) = a
 first_or m None = m

@@ -229,7 +229,7 @@ module _ (v u : View) (call : EventCall) (reporter loaded seat : ℕ) (game : Is
 report_few : (call : EventCall) (reply : Result Accepted Refusal) (ms : List Access) (now : ℕ) → ReportAccesses call reply ms now → length ms ≤ 2
 report_few call reply ms now r = search arith
 
--- a report that says this of its pass is what a word board promises of one, if its pass stays on its board and at its seat
+-- if all that a report promises of its pass's views holds, and the pass keeps its board and seat, the report is as a word board promises
 pub was_reported : (k m : WordPass) (call : EventCall) (reply : Result Accepted Refusal) → Reported k.pass call reply m.pass
     → m.board ≡ k.board → m.seat ≡ k.seat → Occurs m.seat m.pass → WordReported k call reply m
 was_reported k m call reply r own seat occurs =

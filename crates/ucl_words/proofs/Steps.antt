@@ -236,7 +236,7 @@ joins seat v other a s r here apart there = joins_keep words_after IsNextOfProto
 pub opens : (words : List ℕ) → words ≡ words_after [] 0 → TableInvariant (opening words [] first_pass)
 opens words are = opens_keep words_after IsNextOfProtocol words are
 
--- the pass of a board that opens so occurs, at seat 0
+-- the first pass of a board that opens with no event and no reporter occurs, at seat 0
 pub opened_occurs : (words : List ℕ) → words ≡ words_after [] 0 → Occurs 0 first_pass
 opened_occurs words are = record { words = words; views = first_pass ∷ []; rule = opens words are; here = refl }
 
@@ -252,7 +252,7 @@ ExchangeMissed = LoadsMatch Swap
 abbrev pub ExchangeWon : Entry → View → ℕ → View → Type 0
 ExchangeWon e v n w = Adds (Match Swap e.game n) e v w
 
--- an exchange of the enlist word that was won: the pass is a reporter's, and no reading counts as shown under its number yet
+-- an exchange of the number of reporters that was won: the pass is a reporter's, and no reading counts as shown under its number yet
 pub record EnlistWon (v : View) (n : ℕ) (w : View) : Type 0 where
   pub gives : GivesNumber n v w
   pub shown : versions_shown w.own ≡ []
@@ -266,7 +266,7 @@ client_is seat target v w s = ap client_of (own_is words_after IsNextOfProtocol 
 abbrev pub shown_of : ℕ → FinishedCall → List ℕ
 shown_of number c = cond (c.number == number) (version_in c.reply) []
 
--- the word that a step on a match word found is that of a valid record
+-- the word that a step on a match word found is the packing of a valid state of a match
 pub found_word : (seat game n : ℕ) (kind : AccessKind) (v w : View) → Steps seat (Match kind game n) v w → IsWord n
 found_word seat game n kind v w s =
     let there = there_before words_after IsNextOfProtocol seat (Match kind game n) v w s in
@@ -303,7 +303,7 @@ pub loads_enlisted : (seat n : ℕ) (v w : View) → Steps seat (Enlisted n) v w
 loads_enlisted seat n v w s = sees words_after IsNextOfProtocol seat (Enlisted n) v w s legal_steps
     (s.next.entry ∙ (ap (entry_by (client_at seat s.before).number (client_at seat s.before).held) s.of ∙ count_none (client_at seat s.before).held (client_at seat s.before).number n)) refl
 
--- an exchange of the enlist word that was won made the pass a reporter's, which has shown no reading under its number
+-- an exchange of the number of reporters that was won made the pass a reporter's, which has shown no reading under its number
 pub enlist_won : (seat n : ℕ) (v w : View) → Steps seat (Enlists n) v w → EnlistWon v n w
 enlist_won seat n v w s =
     let d = client_of v.own in
@@ -323,7 +323,7 @@ enlist_won seat n v w s =
         ap (λ (b : Bool). cond b (version_in c.reply) [] ++ flat_map (shown_of k) cs) (ne_eqb c.number k (λ same. omega (arith, same, less)))
         ∙ none_shown k cs (All-tail (λ (a : FinishedCall). a.number < k) c cs low)
 
--- a trail over a history, and then accesses over what a longer history has more, are a trail over the longer one
+-- if accesses follow a history s, and others a longer history h from the length of s on, the first and then the others follow h
 pub trail_on : (s h : List Entry) (old new : List Access) → IsPrefix s h → Follows s 0 old (length s) → Follows h (length s) new (length h) → Follows h 0 (old ++ new) (length h)
 trail_on s h old new p was more = follows_append h 0 (length s) (length h) old new (follows_longer s h 0 (length s) old p (le_refl (length s)) was) more
 
@@ -331,7 +331,7 @@ trail_on s h old new p was more = follows_append h 0 (length s) (length h) old n
 pub trail_longer : (s h : List Entry) (trail : List Access) → IsPrefix s h → Follows s 0 trail (length s) → Follows h 0 trail (length h)
 trail_longer s h trail p was = follows_wider h 0 0 (length s) (length h) trail (le_refl 0) (begins_length s h p) (follows_longer s h 0 (length s) trail p (le_refl (length s)) was)
 
--- after steps a trail has their accesses more
+-- the steps that a pass takes add their accesses at the end of its trail
 pub takes_trail : (v w : View) (steps : List Taken) → Takes v steps w → trail_of w ≡ trail_of v ++ accesses_in steps
 takes_trail v w steps t = search (arith, append_assoc, accesses_append)
 
@@ -349,7 +349,7 @@ all_plain (m ∷ n ∷ ms) = ap (λ (l : List Taken). plain m ∷ l) (all_plain 
 pub plain_append : (ms ns : List Access) → steps_with None (ms ++ ns) ≡ steps_with None ms ++ steps_with None ns
 plain_append ms ns = all_plain (ms ++ ns) ∙ (map-append plain ms ns ∙ sym (λ i. all_plain ms i ++ all_plain ns i))
 
--- a consistent pass walks by no accesses to itself
+-- the empty list of accesses leads a consistent pass from its view to the same view
 pub walks_none : (v : View) → IsConsistent v → Walks v [] v
 walks_none v consistent = record {
   consistent = consistent;
@@ -419,6 +419,6 @@ module _ (kind : AccessKind) (game n : ℕ) (v w : View) (consistent : IsConsist
     };
   }
 
--- after accesses that stored nothing what holds of a pass after each call holds
+-- after accesses that stored nothing a pass is sound, has seen no less, and keeps its share and number
 pub walks_continue : (v w : View) (ms : List Access) → Walks v ms w → Continues (pass_view_of v) (pass_view_of w)
 walks_continue v w ms walk = record { sound = walk.consistent.sound; on = walk.on; number = walk.number }

@@ -1,7 +1,5 @@
--- What the private functions of a word board do: the two steps of a report, and the two collects of a reading, which loads all match words,
--- then loads them again, and begins anew at a word that has changed. A pass is a thread's permission: `old` is what contracts know of it
--- before, `new` afterwards. An access is one load or exchange of a match word, at a length of the history (the accepted events). The log
--- has all steps of all passes. A `Pending` is what a pass keeps of its report or reading (its call) until that is answered.
+-- What the private functions of a word board do: the two steps of a report, and the two collects of a reading. `old` is what contracts know
+-- of the pass before, `new` afterwards.
 use Rattle.std.specs.Prelude.{◌≡◌, ℕ, ◌≤◌, List, [], length, Some, None, slice_get}
 use Rattle.ucl_word.specs.declared.event.EventCall.{EventCall}
 use Rattle.ucl_board.specs.Log.{First, Second, Access, added_by, history_of, number_of}
@@ -35,7 +33,8 @@ pub record IsFirstCollect (words : List ℕ) (accesses : List Access) (now : ℕ
   pub words_are : IsCollect First words accesses
   pub last : (m : Access) → slice_get accesses 11 ≡ Some m → m.at ≡ now
 
--- Between `old` and `new` the pass loaded all twelve match words, a first collect, and found `words`; the last load saw the whole history.
+-- Between `old` and `new` the pass loaded all twelve match words, a first collect, and found `words`; at the last load the history was what
+-- the pass has then seen.
 pub record Collects (old : View) (words : List ℕ) (new : View) : Type 0 where
   pub accesses : List Access
   pub walks : Walks old accesses new
@@ -60,7 +59,7 @@ MayCollect NoCall = Unit {0}
 MayCollect (Collecting words) = words ≡ []
 MayCollect _ = ⊥
 
--- The first step of the call under way is at place `first` of the log. If no call was under way before (`NoCall`), that is `known` or
+-- The first step of the call under way is at place `first` of the log. If no call was under way before (`NoCall`), `first` is `known` or
 -- later; and if one was, it is `was`, the place of its first step.
 abbrev pub IsBegun : Pending → ℕ → ℕ → ℕ → Type 0
 IsBegun NoCall known was first = known ≤ first

@@ -1,6 +1,4 @@
--- When one state of a word board comes after another. A state has the words of the board and, by seat (a place in a list), the view of each
--- pass: what it knows of the log of all atomic steps. A pass is a thread's permission on the board. With a share, a fraction of it, a pass
--- can take steps; without one it cannot: it is a note, which tells another pass what it knows, or what is left of a note.
+-- When one state of a word board comes after another. A state has the words of the board and, by seat, the view of each pass.
 use Rattle.std.specs.Prelude.{◌≡◌, ◌≢◌, ℕ, List, [], ◌∷◌, ◌++◌, None, slice_index, slice_set}
 use mathlib.Core.Option.{some}
 use mathlib.Core.List.{IsPrefix}
@@ -12,7 +10,8 @@ use Rattle.ucl_live_board.specs.CallSteps.{CountsReporters}
 use Rattle.ucl_live_board.specs.declared.view.View.{View}
 use Rattle.ucl_words.specs.TableInvariants.{TableInvariant}
 
--- The second state is later than the first, or the same: each pass with a share is at its seat with one, and knows no less of the log.
+-- The second state is later than the first, or the same: each pass that has a share in the first has one in the second, at the same seat,
+-- and knows no less of the log there.
 abbrev pub LaterState : State Entry View → State Entry View → Type 0
 LaterState earlier later = (seat : ℕ) (old : View) → get_elem? earlier.views seat ≡ some old → old.share ≢ None
     → (new : View) × (get_elem? later.views seat ≡ some new) × (new.share ≢ None) × IsPrefix old.log new.log
@@ -45,7 +44,8 @@ JoinIsMonotone both spent =
     → get_elem? state.views seat ≡ some pass → get_elem? state.views other ≡ some note → other ≢ seat → note.share ≡ None
     → LaterState state (record state { views = slice_set (slice_set state.views seat (both pass note)) other spent })
 
--- In a state that satisfies the invariant, a step of this kind finds as many enlisted reporters as the log has, if it finds the word there.
+-- In a state that satisfies the invariant, if a step of this kind finds the word that the state has, it finds as many reporters enlisted as
+-- the log of the state has.
 abbrev pub FindsEnlisted : StepKind → Type 0
 FindsEnlisted kind = (state : State Entry View) (rule : TableInvariant state) (step : Step Entry) (before after : Me Entry View)
     → kind step before (slice_index state.words step.word) after → CountsReporters (enlisted_by rule.log) before.0 after.0

@@ -1,7 +1,5 @@
--- The thirteen words of a word board, the invariant that holds between any two atomic steps, and what each kind of step says of its pass. A
--- pass is a thread's permission on the board, and its seat its place in the list of all passes. A step is one load or one compare and
--- exchange of the word `step.word`: `before.0` and `after.0` are what its pass knows before and after it, `found` the word found. The log
--- has all steps, its history the accepted events. The protocol (`ucl_steps`) says which step may come next.
+-- The thirteen words of a word board, the invariant that holds between any two atomic steps, and what each kind of step says of its pass:
+-- a step of the word `step.word` finds `found`; `before.0` and `after.0` are what its pass knows before and after it.
 use Rattle.std.specs.Prelude.{◌≡◌, ℕ, ◌==◌, List, [], ◌∷◌, if◌then◌else◌}
 use Rattle.atomic_table.specs.Table.{State, Step, Me}
 use Rattle.ucl_word.specs.declared.event.EventCall.{EventCall}

@@ -1,6 +1,4 @@
--- The theorems of word boards, on all boards of thirteen words between any two atomic steps. A state has the words and, by seat, what each
--- pass (a thread's permission on the board) knows of the log of all steps. An entry is an accepted event; a list of them is a legal history
--- if each is accepted after those before. In a later state each pass that can take steps is at its seat and knows all that it knew.
+-- The theorems of word boards, between any two atomic steps. A state has the words and, by seat, the view of each pass.
 use Rattle.std.specs.Prelude.{◌≡◌, ◌<◌, ℕ, List, length}
 use mathlib.Core.List.{IsPrefix}
 use mathlib.Core.Option.{some}

@@ -1,7 +1,4 @@
--- What a call on a word board does, step by step. A pass is a thread's permission on the board: `old` is what contracts know of it before
--- the call, and `new` afterwards. A step is one load or one compare and exchange of a word; a pass knows a prefix of the log of all steps,
--- and has seen its history: the accepted events (entries) of all passes. An access is a step on a match word, as the trail of its pass
--- keeps it: what was done, of which match, the word found, and the length of the history then.
+-- What a call on a word board does, step by step: `old` is what contracts know of its pass before the call, and `new` afterwards.
 use Rattle.std.specs.Prelude.{◌≡◌, ◌≢◌, ◌⊎◌, ℕ, ◌+◌, ◌<◌, ◌≤◌, List, [], ◌∷◌, ◌++◌, length, Option, Some, None, Result, slice_get}
 use Rattle.ucl_word.specs.declared.event.EventCall.{EventCall}
 use Rattle.ucl_word.specs.declared.event.Accepted.{Accepted}
@@ -22,7 +19,8 @@ use Rattle.ucl_live_board.specs.Views.{count_of, trail_of, Takes}
 use Rattle.ucl_live_board.specs.CallSteps.{steps_with, entry_made, FoundEnlisted}
 use Rattle.ucl_words.specs.WordViews.{pass_view_of}
 
--- The trail of this pass agrees with the history: along it lengths never fall, and each word found is its match's after so many entries.
+-- The trail of this pass agrees with the history: along it the points (lengths of the history) never fall, and each access found the word
+-- of its match at its point.
 abbrev pub HasTrail : View → Type 0
 HasTrail pass = Follows (history_of pass.log) 0 (trail_of pass) (length (history_of pass.log))
 

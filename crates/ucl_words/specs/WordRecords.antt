@@ -1,7 +1,6 @@
 -- What each public call of a word board promises: one record for each call, of which most begin with what every shared board says (`says`).
--- A pass is a thread's permission on the board: `old` is what contracts know of it before the call, `new` afterwards; its seat is its place
--- in the list of all passes, its share its fraction of the permission. A step is one load or one compare and exchange of a word. A pass has
--- seen a prefix of the accepted events. By `occurs`, some state that satisfies the invariant of the board has the pass as it is then.
+-- `old` is what contracts know of its pass before the call, `new` afterwards. By `occurs` some state that satisfies the invariant has the
+-- pass as it is then.
 use Rattle.std.specs.Prelude.{◌≡◌, ◌+◌, ◌≤◌, None, Some, Result}
 use Rattle.atomic_table.specs.Seated.{TableId}
 use Rattle.ucl_word.specs.declared.event.EventCall.{EventCall}

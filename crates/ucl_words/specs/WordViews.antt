@@ -1,6 +1,5 @@
--- What contracts know of a pass of a word board. A pass is a thread's permission on the board, a reader's or a reporter's; its share is the
--- fraction of the permission that it has. A step is one load or one compare and exchange of a word, and the log has all steps of all
--- passes. A client is what the steps of a pass make of it: its number (0 for a reader), and its finished reports and readings (calls).
+-- What contracts know of a pass of a word board. A client is what the steps of a pass make of it: its number (0 for a reader), and its
+-- finished calls.
 use Rattle.std.specs.Prelude.{ℕ, ◌==◌, List, [], ◌∷◌, if◌then◌else◌}
 use Rattle.std.specs.List.{flat_map}
 use Rattle.atomic_table.specs.Seated.{TableId}

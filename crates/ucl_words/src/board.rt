@@ -1,7 +1,6 @@
-//! A board that threads share, over thirteen atomic words: the number of reporters, and the twelve matches of a group. A pass is a thread's
-//! permission on the board, a reader's or a reporter's; its seat is its identity there, by which it takes steps, and `seat.me.0` what
-//! contracts know of it. A step is one load or one compare and exchange of a word: `K: Asking` picks, in proofs alone, its seat and event,
-//! `acts` says that the pass may take steps, and `next` that this one comes next. `held` is what a pass keeps of a call under way.
+//! A board that threads share, over thirteen atomic words: the number of reporters, and the twelve matches. `seat.me.0` is what contracts
+//! know of a pass; `K: Asking` picks, in proofs alone, the seat and the event of a step, `acts` says that the pass may take steps, `next`
+//! that this one comes next, and `held` what it keeps of a call under way.
 
 ghost use Rattle.std.specs.Prelude.{◌≡◌, ◌≢◌, ◌<◌, [], length, IfOk, IsSome, MatchResult, MatchBool};
 ghost use Rattle.atomic_table.specs.Seated.{TableId};

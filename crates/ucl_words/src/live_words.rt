@@ -1,5 +1,4 @@
-//! The word board is a `LiveBoard`, as every board is that threads share. A pass is a thread's permission on it: a reader's, to read, or a
-//! reporter's, to enter events under its number. None of these calls waits. What a pass has seen is a prefix of the accepted events.
+//! The word board is a `LiveBoard`. None of these calls waits.
 
 ghost use Rattle.std.specs.Prelude.{◌≡◌, MatchResult};
 ghost use Rattle.ucl_live_board.specs.Passes.{reporter_figures};

@@ -1,6 +1,5 @@
-//! The invariant of the thirteen words that threads share, and the kinds of steps on them, by which contracts tell what a step does. A kind
-//! is a struct with no fields; `K: Asking` says, only in proofs, of which seat and for which event a step is. A pass is a thread's permission
-//! (its share a fraction of it), its seat the identity by which it takes steps. A note, which can take none, tells what another pass knows.
+//! The invariant of a word board, and the kinds of steps on it, by which contracts tell what a step does. A kind is a struct with no
+//! fields; `K: Asking` says, only in proofs, of which seat and for which event a step is.
 
 ghost use Rattle.ucl_words.specs.TableInvariants.{TableInvariant, words_after};
 ghost use Rattle.ucl_words.specs.TableInvariants.{LookStep, FirstStep, SecondStep, EnlistedStep, ExchangeStep, EnlistStep};

@@ -1,6 +1,4 @@
-//! The theorems of word boards, that is, of boards of thirteen atomic words that threads share. The functions do nothing: each is there for
-//! its contract. A pass is a thread's permission on a board; a step is one load or one compare and exchange; the log has all steps in
-//! order. In a later state of a board each pass that can take steps still can, and knows all that it had known of the log.
+//! The theorems of word boards. The functions do nothing: each is there for its contract.
 
 ghost use Rattle.ucl_words.specs.Theorems.{WordsTellTheEntry, BoardsAreLinearizable, LaterBoardsExtend, NumbersRiseInTime};
 ghost use Rattle.ucl_words.specs.LaterState.{StepIsMonotone, SplitIsMonotone, JoinIsMonotone, LaterStatesCompose, FindsEnlisted};

@@ -1,4 +1,4 @@
-//! The texts of the help of `ucl_follow`. A moment is the state of a board at one time; its order is the tie-break order of the clubs.
+//! The texts of the help of `ucl_follow`.
 
 /// What the program is.
 pub(crate) const PROGRAM: &str = "\

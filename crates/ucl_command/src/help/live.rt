@@ -1,4 +1,4 @@
-//! The texts of the help of `ucl_live`. The order is the tie-break order of the clubs; a word is a match packed into 64 bits.
+//! The texts of the help of `ucl_live`.
 
 /// What the program is.
 pub(crate) const PROGRAM: &str = "\

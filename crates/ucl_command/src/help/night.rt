@@ -1,4 +1,4 @@
-//! The texts of the help of `ucl_night` and its subcommands. A word is a match packed into 64 bits; a reading is a snapshot of the board.
+//! The texts of the help of `ucl_night` and its subcommands.
 
 /// What the program is.
 pub(crate) const PROGRAM: &str = "\

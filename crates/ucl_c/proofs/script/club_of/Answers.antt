@@ -4,7 +4,7 @@ use Rattle.ucl_order.specs.Roster.{NamedClub, club_in}
 use Rattle.ucl_c.specs.Replies.{club_written}
 use Rattle.ucl_c.proofs.script.club_of.Goals as goal
 
--- a club with the bytes of a name at the front of twenty zeros
+-- a club with its name copied to the front of twenty zeros, and with its coefficient, is the club as `club_written` puts it for C
 club-written : (club : NamedClub) (name text : List ℕ) (coefficient : ℕ) → name ≡ text → text ≡ club.name → coefficient ≡ club.coefficient
     → record { name = name ++ drop (length text) (replicate 20 0); length = length text; coefficient = coefficient } ≡ club_written club
 club-written club name text coefficient copied is of = rw (copied, drop-replicate {X = ℕ} (length text) 20 0, is, of) refl

@@ -6,7 +6,7 @@ use Rattle.ucl_screen.specs.declared.fault.InputFault.TheVariants as input
 use Rattle.ucl_c.specs.Theorems.{IsWrittenAsTold}
 use Rattle.ucl_c.proofs.theorems.faults_are_written_by_number.Goals as goal
 
--- the line for each fault of an input, or for lack of memory, has the number that C has for it
+-- the line that the programs write for each fault of an input but `ReadFailed`, which C does not have, has the number that C has for it
 by_number : (fault : InputFault) → IsWrittenAsTold fault
 unfolding digits
 by_number (input.BadWordAt index) = record { place = codes "word " ++ decimal index; written = refl }

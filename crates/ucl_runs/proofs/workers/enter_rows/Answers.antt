@@ -1,4 +1,4 @@
-use Rattle.ucl_runs.proofs.Common.{EventCall, HasReported, List, ap, calls_of, drop, first-event, past, refl, subst, sym, ◌+◌, ◌∙◌, ◌≢◌}
+use Rattle.ucl_runs.proofs.Common.{EventCall, HasReported, List, ap, calls_of, drop, drop_all, first-event, refl, subst, sym, ◌+◌, ◌∙◌, ◌≢◌}
 use Rattle.ucl_runs.proofs.EnteredRows.{other_calls, own_calls}
 use Rattle.ucl_runs.proofs.workers.enter_rows.Goals.{then-get-reporter, else-get-reporter}
 use Rattle.ucl_runs.proofs.workers.enter_rows.Goals as goal
@@ -37,4 +37,4 @@ pub returns-clause-entered : goal.returns-clause-entered
 returns-clause-entered g c =
     c.loop-row.invariant.entered c.loop-row.pass
     (subst (λ (calls : List EventCall). HasReported g.B.LiveBoard calls c.loop-row.pass c.loop-row.pass)
-    (sym (ap (calls_of c.args.reporter) (past c.loop-row.row-index c.args.rows.now c.loop-row-test.false))) refl)
+    (sym (ap (calls_of c.args.reporter) (drop_all c.loop-row.row-index c.args.rows.now c.loop-row-test.false))) refl)

@@ -7,11 +7,11 @@ use Rattle.ucl_word.proofs.rules.next_word.Goals as goal
 by : (c : After-from) → IsReporter c.args.reporter
 by c = rw (← c.get.ensures.value) c.get.ensures.within
 
--- where neither the number and state nor the change of the event is refused, the rules refuse it for nothing
+-- once the code has refused the event neither for its number and state nor for its change, no rule refuses it
 none : (c : After-from) → refusal_of (record_at c.args.word) c.args.expected c.args.kind ≡ None
 none c = c.in_ok-in_turn.ensures.1 ∙ c.in_ok-changed.ensures.0
 
--- what `Entered` says holds of the changed word, the reporter that stands in it, and the record after the event
+-- the record after the event is valid, and its word is the changed word with one event more, and the new reporter in place of the one there
 next : (c : After-from) → Entered c.in_ok-changed.changed c.field.result c.args.reporter (after (record_at c.args.word) c.args.reporter c.args.kind)
 next c = entered c.args.word c.requires c.args.kind c.args.reporter c.args.expected c.in_ok-changed.changed c.field.result (by c) (none c) c.in_ok-changed.ensures.1 c.field.ensures.value
 

@@ -10,7 +10,7 @@ use Rattle.ucl_c.specs.contracts.board_pass.BoardPass as inner
 use Rattle.ucl_c.proofs.board_pass.BoardPass.TheSendSync.{the_send}
 use Rattle.ucl_c.specs.contracts.handle.Handle.{the_row, the_type}
 
--- if what is owned at each pointer is keyless, so is what a handle owns there, which at null is nothing
+-- if what is owned at each pointer names no thread's token (is keyless), neither does what a handle owns there, which at null is nothing
 owned_keyless : (owned : Ptr → Fml) → ((p : Ptr) → Keyless (owned p)) → (p : Ptr) → Keyless (owned_at owned p)
 owned_keyless owned k null_ptr = tt
 owned_keyless owned k (block_ptr b o) = k (block_ptr b o)

@@ -23,11 +23,11 @@ use Rattle.ucl_c.proofs.handle.Handle.TheLaws.{lowers}
 abbrev stayed : Stays f.ended.signature.params f.ended.kept
 stayed = (stay_ref (0 ∷ []) tt (plain (λ _. R)), (stay_dropped _ yes, tt))
 
--- the type of the parts of a box with a pass
+-- the type, for the kit, of a `RawBox<BoardPass>`: a box with a pass, taken apart into its pointer and its allocator
 abbrev P : RattleType
 P = parts.the_row inner.the_row heap.the_row ghosts
 
--- the value in memory of the parts of a box with a pass is given by what they denote
+-- the parts of a box with a pass are one value of the machine, which is determined by what they denote
 abbrev put_lowers : denote.Struct.OwningLaws.Lowered (parts.the_type inner.the_row heap.the_row ghosts)
 put_lowers = parts_laws.lowers inner.the_row heap.the_row ghosts inner_laws.the_row_laws heap_laws.the_row_laws heap_laws.the_told
 

@@ -4,6 +4,7 @@ use Rattle.ucl_pass.specs.CellInvariants.{CellOccurs}
 use Rattle.ucl_pass.proofs.InvariantIsKept.{begins, opened_occurs}
 use Rattle.ucl_pass.proofs.cell_board.CellBoard.open.Goals as goal
 
+-- the words of no event and no reporter, with the first pass, satisfy the invariant that the cell is made with
 pub ruled-requires : goal.ruled-requires
 ruled-requires g c = (search rules, (search rules, begins _ (c.words_with.ensures ∙ ap (λ (b : List ℕ). b ++ 0 ∷ []) c.fresh.ensures)))
 

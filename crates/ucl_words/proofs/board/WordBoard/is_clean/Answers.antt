@@ -21,6 +21,7 @@ load_again-requires-clause-acts c = (c.loop-checked.invariant.so_far (omega arit
 pub load_again-requires-clause-word : goal.load_again-requires-clause-word
 load_again-requires-clause-word c = (omega arith, omega arith)
 
+-- the match word that is loaded is the next that the second collect is to compare
 pub load_again-requires-clause-next : goal.load_again-requires-clause-next
 load_again-requires-clause-next c = ap (λ (d : ClientState). next_game Second d.held) (sym (c.loop-checked.invariant.so_far (omega arith)).1)
 

@@ -19,6 +19,7 @@ join_seat-requires c =
           (joins v.id v.me.0 note.result.id c.first.inside.seat.me.0),
     )
 
+-- the second pass has its share also after it took in the note of the first, so it may load the number of reporters
 pub count-requires-clause-acts : goal.count-requires-clause-acts
 count-requires-clause-acts c = subst (λ (u : View). IsSome u.share) (sym (ap (λ m. m.0) c.join_seat.ensures.2)) c.second.invariant.0.sound.acts
 
