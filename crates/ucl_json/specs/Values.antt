@@ -1,6 +1,6 @@
 -- Answers to rows as values of JSON; `row` is the number of the row. The members of an object stand in the order of their names.
 use Rattle.std.specs.Prelude.{ℕ, pos, ◌-ℤ◌, List, [], ◌∷◌, codes, Option, None, Some, Result, Ok, Err}
-use Rattle.serde_json.specs.Data.{Data, Items, item, no_items, member, no_members, array, boolean, null, number, object, put, string, unsigned}
+use Rattle.serde_json.specs.Data.{Data, Items, Members, item, no_items, member, no_members, array, boolean, null, number, object, put, string, unsigned}
 use Rattle.serde_json.specs.Find.{of_integer}
 use Rattle.ucl_word.specs.declared.event.Accepted.{Accepted}
 use Rattle.ucl_word.specs.declared.record.MatchRecord.{MatchRecord}
@@ -55,6 +55,15 @@ club_value roster slot = object (
 abbrev pub club_items : List NamedClub → Items
 club_items roster = item (club_value roster 1) (item (club_value roster 2) (item (club_value roster 3) (item (club_value roster 4) no_items)))
 
+-- members, with those that tell a board: the group, the tie-break order, the version, the clubs and the words
+abbrev pub with_board : ℕ → Profile → List ℕ → List NamedClub → Members → Members
+with_board group profile board roster members =
+    put (codes "words") (array (word_items board)) (
+    put (codes "clubs") (array (club_items roster)) (
+    put (codes "version") (number_value (version_of board)) (
+    put (codes "order") (string (profile_name profile)) (
+    put (codes "group") (string (group ∷ [])) members))))
+
 -- ---- a match as it stands
 
 -- an array of two numbers: one of the home side, and one of the visiting side
@@ -85,6 +94,15 @@ matches_value row board roster = object (
     member (codes "row") (number_value row) no_members))))
 
 -- ---- replies
+
+-- members, with those that tell an event and the number of its row
+abbrev pub with_event : ℕ → NightEvent → Members → Members
+with_event row event members =
+    put (codes "event") (string (kind_name event.call.kind)) (
+    put (codes "expected") (number_value event.call.expected) (
+    put (codes "match") (number_value event.call.game) (
+    put (codes "reporter") (number_value event.reporter) (
+    put (codes "row") (number_value row) members))))
 
 -- the reply to an event that was accepted: the event, its number in its match, the header, the clubs, and the board after it
 unfoldable pub accepted_value : ℕ → NightEvent → ℕ → BoardHeader → List ℕ → List NamedClub → Data
@@ -165,6 +183,21 @@ mark_name Blank = codes ""
 -- the goals of a club less those against it, which may be negative
 abbrev pub difference_value : Row → Data
 difference_value row = number (of_integer (pos row.goals_for -ℤ pos row.goals_against))
+
+-- members, with how many matches a row of the table counts
+abbrev pub with_results : Row → Members → Members
+with_results row members =
+    put (codes "lost") (number_value row.losses) (
+    put (codes "drawn") (number_value row.draws) (
+    put (codes "won") (number_value row.wins) (
+    put (codes "played") (number_value row.played) members)))
+
+-- members, with the goals and the points of a row of the table, without the difference
+abbrev pub with_goals : Row → Members → Members
+with_goals row members =
+    put (codes "points") (number_value row.points) (
+    put (codes "goals_against") (number_value row.goals_against) (
+    put (codes "goals_for") (number_value row.goals_for) members))
 
 -- a row of the table, with the name of its club
 unfoldable pub place_value : List NamedClub → Row → Data

@@ -7,10 +7,10 @@ ghost use Rattle.ucl_screen.specs.Screen.{IsGroup};
 ghost use Rattle.ucl_json.specs.Lines.{IsLineOf};
 ghost use Rattle.ucl_json.specs.Mended.{left_out_value, mend_refused_value, mended_value, mended_with};
 
-use crate::answer_parts::{club_values, letter_of, word_values};
+use crate::answer_parts::put_board;
 use crate::header::BoardHeader;
 use crate::line::{format_line, with_member};
-use serde_json::{Value, json};
+use serde_json::{Map, Value, json, put};
 use std::alloc::{AllocError, Global};
 use ucl_board::{Board, Entry};
 use ucl_order::Roster;
@@ -79,17 +79,20 @@ fn mended_value(alloc: Global, reply: &MendReply<'_>) -> Result<Value, AllocErro
         reply.now.header reply.now.board.now reply.now.roster.now) }
 {
     let header = reply.header;
-    json!(in alloc; {
-        "row": reply.row,
-        "reply": "mended",
-        "left_out": reply.left_out,
-        "version": reply.board.version(),
-        "group": letter_of(header.group),
-        "order": header.profile.name(),
-        "edition": header.edition,
-        "clubs": club_values(alloc, reply.roster)?,
-        "words": word_values(alloc, reply.board.words().as_slice())?
-    })
+    let mut members = Map::new(alloc);
+    put(&mut members, alloc, "row", Value::from(reply.row))?;
+    put(&mut members, alloc, "reply", json!(in alloc; "mended")?)?;
+    put(&mut members, alloc, "left_out", Value::from(reply.left_out))?;
+    put(&mut members, alloc, "edition", Value::from(header.edition))?;
+    put_board(
+        &mut members,
+        alloc,
+        header.group,
+        header.profile,
+        reply.board,
+        reply.roster,
+    )?;
+    Ok(Value::Object(members))
 }
 
 /// Returns the line that answers a mend, with the board after it.

@@ -9,10 +9,12 @@ ghost use Rattle.ucl_screen.specs.Screen.{IsGroup};
 ghost use Rattle.ucl_json.specs.Lines.{IsLineOf};
 ghost use Rattle.ucl_json.specs.Values.{accepted_value, bad_row_value, coded_value, matches_value, refused_value, reply_value, words_value};
 
-use crate::answer_parts::{club_values, letter_of, match_value, match_values, word_values};
+use crate::answer_parts::{
+    club_values, match_value, match_values, put_board, put_event, word_values,
+};
 use crate::header::BoardHeader;
 use crate::line::{format_line, with_member};
-use serde_json::{Value, json};
+use serde_json::{Map, Value, json, put};
 use std::alloc::{AllocError, Global};
 use ucl_board::Board;
 use ucl_order::Roster;
@@ -43,27 +45,21 @@ fn accepted_value(alloc: Global, reply: &EventReply<'_>, number: u16) -> Result<
     ensures { IfOk result (λ value. view value ≡ accepted_value reply.now.row reply.now.event.now
         number reply.now.header reply.now.board.now reply.now.roster.now) }
 {
-    let EventReply {
-        row,
-        event,
-        header,
-        ..
-    } = *reply;
-    json!(in alloc; {
-        "row": row,
-        "reply": "ok",
-        "reporter": event.reporter.get(),
-        "match": event.call.game.get(),
-        "expected": event.call.expected,
-        "event": event.call.kind.name(),
-        "number": number,
-        "version": reply.board.version(),
-        "group": letter_of(header.group),
-        "order": header.profile.name(),
-        "edition": header.edition,
-        "clubs": club_values(alloc, reply.roster)?,
-        "words": word_values(alloc, reply.board.words().as_slice())?
-    })
+    let header = reply.header;
+    let mut members = Map::new(alloc);
+    put_event(&mut members, alloc, reply.row, reply.event)?;
+    put(&mut members, alloc, "reply", json!(in alloc; "ok")?)?;
+    put(&mut members, alloc, "number", Value::from(number))?;
+    put(&mut members, alloc, "edition", Value::from(header.edition))?;
+    put_board(
+        &mut members,
+        alloc,
+        header.group,
+        header.profile,
+        reply.board,
+        reply.roster,
+    )?;
+    Ok(Value::Object(members))
 }
 
 /// Returns the reply to an event that is refused, as a value of JSON, without the members that only the reply to a stale event has.
@@ -71,17 +67,17 @@ fn coded_value(alloc: Global, reply: &EventReply<'_>, refusal: Refusal) -> Resul
     ensures { IfOk result (λ value. view value ≡ coded_value reply.now.row reply.now.event.now
         (refusal_code refusal) (refusal_name refusal)) }
 {
-    let EventReply { row, event, .. } = *reply;
-    json!(in alloc; {
-        "row": row,
-        "reply": "refused",
-        "reporter": event.reporter.get(),
-        "match": event.call.game.get(),
-        "expected": event.call.expected,
-        "event": event.call.kind.name(),
-        "code": refusal.code(),
-        "name": refusal.name()
-    })
+    let mut members = Map::new(alloc);
+    put_event(&mut members, alloc, reply.row, reply.event)?;
+    put(&mut members, alloc, "reply", json!(in alloc; "refused")?)?;
+    put(&mut members, alloc, "code", Value::from(refusal.code()))?;
+    put(
+        &mut members,
+        alloc,
+        "name",
+        json!(in alloc; refusal.name())?,
+    )?;
+    Ok(Value::Object(members))
 }
 
 /// Returns the reply to an event that is refused, as a value of JSON; if it is stale, with its match as it stands.
