@@ -54,14 +54,25 @@ def pytest_configure(config):
     signal.signal(signal.SIGINT, signal.default_int_handler)
     signal.signal(signal.SIGHUP, signal.SIG_DFL)
     config.addinivalue_line("markers", "quick: needs words and input alone, or no program at all, so that --unproved can try it")
+    config.addinivalue_line("markers", "xdist_group(name): has one worker run all tests of this name, where pytest-xdist is there")
     config.addinivalue_line("markers", "limit(seconds): how long the test may take; more by the profile `night` and with more kills")
+
+
+def limit_of(test):
+    """How long a test may take, in seconds, with nothing asked for beyond what the gate tries."""
+    marker = test.get_closest_marker("limit")
+    return marker.args[0] if marker else LIMIT
+
+
+def pytest_collection_modifyitems(items):
+    """Tests that may take long begin first, so that none is left to run alone at the end."""
+    items.sort(key=limit_of, reverse=True)
 
 
 @pytest.fixture(autouse=True)
 def limited(request):
     """No test waits for ever."""
-    marker = request.node.get_closest_marker("limit")
-    seconds = (marker.args[0] if marker else LIMIT) * max(1, hypothesis.settings.default.max_examples // 100, request.config.getoption("kills") // 100)
+    seconds = limit_of(request.node) * max(1, hypothesis.settings.default.max_examples // 100, request.config.getoption("kills") // 100)
     signal.signal(signal.SIGALRM, lambda *_: pytest.fail(f"waited for {seconds} seconds"))
     signal.setitimer(signal.ITIMER_REAL, seconds, seconds)
     yield

@@ -20,6 +20,7 @@ TO_WRITE = "impl<W: Write + Drop> Drop for ToWrite<W> {\n    fn drop(mut self) {
 
 
 @pytest.mark.quick
+@pytest.mark.limit(300)
 @pytest.mark.parametrize(
     "version, verdict",
     [

@@ -28,7 +28,8 @@ NIGHT = f"python3 /usr/share/doc/python3-uclboard/examples/night.py A <{DOC}/fir
 # What the roots have: nothing, and what the packages and these tests recommend.
 ROOTS = {"bare": [], "full": ["--include=python3,python3-aiohttp,python3-paho-mqtt,python3-prompt-toolkit,mosquitto-clients,man-db,bash-completion,zsh,gcc,libc6-dev,pkg-config"]}
 
-pytestmark = pytest.mark.limit(600)
+# One worker makes the packages and the roots, and has all these tests.
+pytestmark = [pytest.mark.limit(600), pytest.mark.xdist_group("package")]
 
 
 def packed(top, folder):
