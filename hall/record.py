@@ -6,7 +6,8 @@ other. Calls that may block are made in threads; all else is of one event loop.
 """
 
 import asyncio
-from collections.abc import Callable, Coroutine, Sequence
+import contextlib
+from collections.abc import AsyncIterator, Callable, Coroutine, Sequence
 from typing import Any, TypeVar
 
 from hall import disk
@@ -55,6 +56,8 @@ class Record:
         record = cls(RowFile(path, is_read_only), program, is_durable)
         try:
             await record._begin()
+            if not is_read_only:
+                await record._end_cut_line()
         except BaseException:
             await record.close()
             raise
@@ -192,13 +195,7 @@ class Record:
         self, rows: Sequence[bytes], check: Check, written: Written | None
     ) -> list[asyncio.Future[Reply]]:
         """Writes rows under the lock of the file. Raises OSError where none of them is there."""
-        try:
-            await _in_thread(self._file.lock, LOCK)
-            await self._read()
-            if self._file.rest:
-                await _in_thread(self._file.write, b"\n")
-                await self._read()
-            await self.ready()
+        async with self._locked():
             await check()
             # Nobody reads meanwhile: the rows are not answered before they are expected.
             async with self._reading:
@@ -207,6 +204,30 @@ class Record:
                 if written is not None:
                     written(first)
             return futures
+
+    async def _end_cut_line(self) -> None:
+        """Ends the last line, if a write was cut off in it.
+
+        A row that lacks its end alone is there, so it is known before the same row comes again.
+        Where the line cannot be ended now, the next append does it.
+        """
+        if self._file.rest:
+            await self.ready()
+            with contextlib.suppress(OSError, NotEntered, MaybeEntered, disk.Held):
+                async with self._locked():
+                    pass
+
+    @contextlib.asynccontextmanager
+    async def _locked(self) -> AsyncIterator[None]:
+        """Holds the lock of the file; all lines are read, have ends and are answered."""
+        try:
+            await _in_thread(self._file.lock, LOCK)
+            await self._read()
+            if self._file.rest:
+                await _in_thread(self._file.write, b"\n")
+                await self._read()
+            await self.ready()
+            yield
         finally:
             self._file.unlock()
 

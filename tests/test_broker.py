@@ -899,6 +899,27 @@ def test_the_board_is_killed_and_goes_on_from_its_record(site):
     evening.settle()
 
 
+def test_the_board_is_killed_between_a_row_and_its_end(site):
+    """The row is in the record; it comes again, and is answered as entered."""
+    board, text = site.begin(), lambda name: (site.path / name).read_text()
+    for name in "sent", "told":
+        (site.path / name).touch()
+    site.line("mosquitto_sub -q 1 -t ucl/a/0/rows/1 >sent")
+    typed = "(echo 1 kickoff; until [ -e late ]; do sleep 0.1; done; echo 1 goal home)"
+    reporter = site.line(f"{typed} | ./ucl_reporter --broker a --again 0.5 --limit 60 >told")
+    until(lambda: "entered, row 6" in text("told"), 60)
+    os.killpg(board.shell.pid, signal.SIGSTOP)
+    (site.path / "late").touch()
+    until(lambda: "1,1,1,goal-home" in text("sent"), 60)
+    board.kill()
+    site.await_no_board()
+    site.append("a", "1,1,1,goal-home")
+    board.start()
+    assert reporter.shell.wait() == 0
+    assert "\n1 goal home             entered, row 7: Bravo 1-0 Charlie, in play, event 2 by 1" in text("told")
+    assert text("a.rows").endswith("1,1,0,kickoff\n1,1,1,goal-home\n")
+
+
 def test_every_row_comes_twice_and_some_ten_rows_later(site):
     """All are one reporter's, and some are no rows; the answers are those of the rules, one by one."""
     evening = Session(site, 3)

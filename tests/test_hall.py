@@ -379,6 +379,28 @@ def test_a_lock_that_another_holds(tmp_path, live):
     held(tmp_path, STARTED, work, live)
 
 
+@pytest.mark.parametrize("is_held", [False, True], ids=["free", "held"])
+def test_a_last_row_that_lacks_its_end(tmp_path, live, is_held):
+    """It stands as an event once the record is open; if another holds the lock then, after the next append."""
+    path, last = tmp_path / "evening.csv", Row(1, 2, "goal-away")
+
+    async def work():
+        path.write_text(STARTED[:-1])
+        with open(path) as file:
+            if is_held:
+                fcntl.flock(file, fcntl.LOCK_EX)
+            record = await Record.open(str(path), live)
+        try:
+            await record.ready()
+            assert record.has(1, last) != is_held and path.read_text() == STARTED[:-1] + "\n" * (not is_held)
+            assert isinstance((await record.append([b"1,2,0,kickoff\n"], 0))[0].answer, Accepted) and record.has(1, last)
+        finally:
+            await record.close()
+
+    asyncio.run(work())
+    assert path.read_text() == STARTED + "1,2,0,kickoff\n"
+
+
 @contextlib.contextmanager
 def small_disk(folder, size):
     """A file system of so many bytes."""
