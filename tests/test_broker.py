@@ -862,6 +862,7 @@ class Session:
         return screens
 
 
+@pytest.mark.limit(500)
 def test_the_broker_is_killed_and_started_again(site):
     evening = Session(site, 1)
 
@@ -874,6 +875,7 @@ def test_the_broker_is_killed_and_started_again(site):
     evening.settle()
 
 
+@pytest.mark.limit(500)
 def test_the_board_is_killed_and_goes_on_from_its_record(site):
     """Its program is killed alone, and it goes on; it is killed itself, and the record's last row is cut, or lacks its end alone."""
     evening = Session(site, 2)
@@ -944,6 +946,7 @@ def test_every_row_comes_twice_and_some_ten_rows_later(site):
     evening.settle()
 
 
+@pytest.mark.limit(500)
 def test_followers_are_killed_come_late_miss_lines_or_are_not_read(site):
     evening = Session(site, 4)
     (site.path / "turned.py").write_text(TURNED)
