@@ -25,26 +25,6 @@ fn number_at(words: &[String], i: usize) -> anyhow::Result<u64> {
         .context("a number is wanted")
 }
 
-/// Runs the nights of the seed and the number of readings that the command line has.
-fn nights_of<R: Print + Threads + Wait + Sync>(
-    rt: &R,
-    alloc: Global,
-    words: &[String],
-    input: &[u8],
-) -> anyhow::Result<()> {
-    let readings = u32::try_from(number_at(words, 3)?)?;
-    nights::run(rt, alloc, number_at(words, 2)?, readings, input)
-}
-
-/// Plays as many random nights as the command line asks for, from its seed on.
-fn soak_of<R: Print + Threads + Wait + Sync>(
-    rt: &R,
-    alloc: Global,
-    words: &[String],
-) -> anyhow::Result<()> {
-    soak::run(rt, alloc, number_at(words, 2)?, number_at(words, 3)?)
-}
-
 /// Does what the words of the command line ask for, with the bytes of standard input: `refused`, `ample`, `nights` or `soak`.
 fn run<R: Print + Threads + Wait + Sync>(
     rt: &R,
@@ -58,8 +38,11 @@ fn run<R: Print + Threads + Wait + Sync>(
             refused::run(rt, alloc, call.as_str(), input)
         }
         Some("ample") => ample::run(rt, alloc, input),
-        Some("nights") => nights_of(rt, alloc, words, input),
-        Some("soak") => soak_of(rt, alloc, words),
+        Some("nights") => {
+            let readings = u32::try_from(number_at(words, 3)?)?;
+            nights::run(rt, alloc, number_at(words, 2)?, readings, input)
+        }
+        Some("soak") => soak::run(rt, alloc, number_at(words, 2)?, number_at(words, 3)?),
         _ => anyhow::bail!("refused CALL, ample, nights SEED READINGS, or soak SEED NIGHTS"),
     }
 }

@@ -48,34 +48,6 @@ struct Seen {
     is_wrong: bool,
 }
 
-impl Seen {
-    /// Goes on to the next turn, if this one is over.
-    fn end_turn(&mut self, is_over: bool) {
-        self.turn = self.turn.saturating_add(usize::from(is_over));
-    }
-
-    /// Counts a worker's call, and notes as wrong one that is not its next, or that a reader makes before the screen of its last.
-    fn count_call(&mut self, worker: u8, call: u32) {
-        match self.workers.get_mut(usize::from(worker).wrapping_sub(1)) {
-            Some(own) if own.calls == call && (worker < 3 || own.screens == call) => {
-                own.calls = call.saturating_add(1);
-            }
-            _ => self.is_wrong = true,
-        }
-    }
-
-    /// Counts a reader's screen of this version, and notes as wrong one that is not right, or not of its last call.
-    fn count_screen(&mut self, worker: u8, version: u16, is_right: bool) {
-        match self.workers.get_mut(usize::from(worker).wrapping_sub(1)) {
-            Some(own) if own.screens < own.calls && is_right => {
-                own.screens = own.calls;
-                own.last = Some(version);
-            }
-            _ => self.is_wrong = true,
-        }
-    }
-}
-
 /// A gate that lets no worker begin before all have come, and, if it has a list of turns, lets one call at a time through, in that order. It
 /// notes a call and a screen that is out of turn or not of its worker; then it lets all through.
 #[derive(Drop)]
@@ -177,15 +149,23 @@ impl<R: Wait + Sync> Gate for Watch<'_, R> {
     /// Counts a worker's call, and holds it until its turn. A reporter's turn is over when the reporter comes again, or, for its last row,
     /// which is always refused, at once.
     fn come(&self, worker: u8, call: u32) {
+        let at = usize::from(worker).wrapping_sub(1);
+        let is_reporter = worker < 3;
         let mut seen = self.seen.lock(self.rt);
-        seen.count_call(worker, call);
-        seen.end_turn(worker < 3 && call > 0);
+        match seen.workers.get_mut(at) {
+            Some(own) if own.calls == call && (is_reporter || own.screens == call) => {
+                own.calls = call.saturating_add(1);
+            }
+            _ => seen.is_wrong = true,
+        }
+        let is_again = is_reporter && call > 0;
+        seen.turn = seen.turn.saturating_add(usize::from(is_again));
         self.moved.notify_all();
         let mut seen = self
             .moved
             .wait_while(self.rt, seen, |seen| self.holds(seen, worker, call));
-        let most = self.most.get(usize::from(worker).wrapping_sub(1)).copied();
-        seen.end_turn(worker < 3 && call.checked_add(1) == most);
+        let is_last = is_reporter && call.checked_add(1) == self.most.get(at).copied();
+        seen.turn = seen.turn.saturating_add(usize::from(is_last));
         self.moved.notify_all();
     }
 
@@ -197,8 +177,14 @@ impl<R: Wait + Sync> Gate for Watch<'_, R> {
         let mut seen = self.seen.lock(self.rt);
         let next = self.turns.get(seen.turn).copied();
         let is_in_turn = next.is_none_or(|next| next == (worker, reading.version));
-        seen.count_screen(worker, reading.version, is_screen && is_in_turn);
-        seen.end_turn(true);
+        match seen.workers.get_mut(usize::from(worker).wrapping_sub(1)) {
+            Some(own) if own.screens < own.calls && is_screen && is_in_turn => {
+                own.screens = own.calls;
+                own.last = Some(reading.version);
+            }
+            _ => seen.is_wrong = true,
+        }
+        seen.turn = seen.turn.saturating_add(1);
         self.moved.notify_all();
     }
 }
@@ -344,7 +330,7 @@ fn is_right<B: LiveBoard, R: Threads + Wait + Sync>(
     mut pass: B::ReaderPass,
     watch: &mut Watch<'_, R>,
     case: Case,
-) -> Result<bool, AllocError>
+) -> anyhow::Result<bool>
     requires { B.is_reader board.now pass }
 {
     let alone = with_others(rt, board, &mut pass, &case);
@@ -376,10 +362,10 @@ fn is_right_on<R: Threads + Wait + Sync>(
 ) -> anyhow::Result<bool> {
     if in_cell {
         let (board, pass) = CellBoard::open(rt, alloc)?;
-        Ok(is_right(rt, alloc, &board, pass, watch, case)?)
+        is_right(rt, alloc, &board, pass, watch, case)
     } else {
         let (board, pass) = WordBoard::open(rt, alloc)?;
-        Ok(is_right(rt, alloc, &board, pass, watch, case)?)
+        is_right(rt, alloc, &board, pass, watch, case)
     }
 }
 

@@ -99,12 +99,8 @@ fn sheets<R: Print>(rt: &R, alloc: Global, input: &[u8]) -> anyhow::Result<()> {
     let first = marked(alloc, || read_words(alloc, &mut FromRead::new(input)))?;
     let sheet = read_words(alloc, &mut FromRead::new(input))?;
     let text = screen(alloc, &sheet.board, &sheet.roster, b'A', Uefa)?;
-    tell_same(
-        rt,
-        first.map(|sheet| sheet.board),
-        &sheet.board,
-        text.as_str(),
-    )
+    let first = first.map(|sheet| sheet.board);
+    tell_same(rt, first, &sheet.board, text.as_str())
 }
 
 /// The words of the input, which spaces part.
@@ -159,12 +155,8 @@ fn steps<R: Print>(rt: &R, alloc: Global, input: &[u8]) -> anyhow::Result<()> {
     let trace = run_steps(alloc, &cast, &steps)?;
     let (entries, calls) = (trace.history.len(), trace.calls.len());
     let text = format!(in alloc; "{entries} entries, {calls} calls\n")?;
-    tell_same(
-        rt,
-        first.map(|trace| trace.words),
-        &trace.words,
-        text.as_str(),
-    )
+    let first = first.map(|trace| trace.words);
+    tell_same(rt, first, &trace.words, text.as_str())
 }
 
 /// Prints the outcome of opening a board twice. A board that the first call has opened has to read as the second, which is fresh.

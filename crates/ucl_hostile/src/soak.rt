@@ -243,7 +243,7 @@ fn are_whole(readings: &[Reading]) -> bool {
 }
 
 /// Whether all replies and readings of a night are as on a board of one thread, and the last reading, the settled one, has all its events.
-fn are_right(alloc: Global, entered: &[Entered], readings: &[Reading]) -> Result<bool, AllocError> {
+fn are_right(alloc: Global, entered: &[Entered], readings: &[Reading]) -> anyhow::Result<bool> {
     let mut version = 0usize;
     for game in (1..13).filter_map(MatchNo::new) {
         match replayed(alloc, entered, readings, game)? {
@@ -286,7 +286,7 @@ fn settles<B: LiveBoard, R: Wait>(
         .ok()
         .context("strangers")?;
     readings.push(settled)?;
-    Ok(are_right(alloc, entered, &readings)?)
+    are_right(alloc, entered, &readings)
 }
 
 /// Holds a random night of this seed on a board, with two reporters and a reader in threads, and returns whether all replies and readings
