@@ -4,13 +4,14 @@ ghost use Rattle.ucl_screen.specs.Screen.{IsGroup};
 
 use crate::soak::Random;
 use std::alloc::{AllocError, Global};
+use std::iter::repeat_n;
 use std::sync::{Condvar, Mutex, Wait};
 use std::thread::Threads;
 use ucl_board::{Board, Reading};
 use ucl_order::Profile::Uefa;
 use ucl_pass::{CellBoard, LiveBoard};
 use ucl_rows::RunFault;
-use ucl_runs::{Gate, night_run};
+use ucl_runs::{Gate, NightEnd, night_run};
 use ucl_screen::{Night, NightEvent, night_of_bytes, screen};
 use ucl_word::{EventCall, Kind, MatchNo, ReporterNo};
 use ucl_words::WordBoard;
@@ -22,10 +23,10 @@ fn letter(group: u8) -> u8
     b'A' + group % 8
 }
 
-/// The kick-off of match 12.
-pub(crate) fn kick_off() -> Option<EventCall> {
+/// The kick-off of the match with this number.
+pub(crate) fn kick_off(game: u8) -> Option<EventCall> {
     Some(EventCall {
-        game: MatchNo::new(12)?,
+        game: MatchNo::new(game)?,
         expected: 0,
         kind: Kind::KickOff,
     })
@@ -90,25 +91,25 @@ impl<'n, R: Wait + Sync> Watch<'n, R> {
         }
     }
 
+    /// How many readings of a reader are due before this row, if they come evenly among the rows.
+    fn due(&self, row: usize) -> usize {
+        let (rows, readings) = (self.night.events.len(), self.most[2] as usize);
+        let least = row.saturating_mul(readings);
+        let most = least.saturating_add(rows).saturating_sub(1);
+        most.checked_div(rows).unwrap_or(0)
+    }
+
     /// Lists the turns in which the gate lets calls of a night on this board through, and returns the version after them. Rows come in
     /// script order, and readings evenly among them: those of worker 3 before a row, and those of worker 4 after it.
     fn hold(&mut self, mut board: Board) -> Result<u16, AllocError> {
-        let (rows, readings) = (self.night.events.len(), self.most[2] as usize);
-        let due = |row: usize| {
-            let least = row.saturating_mul(readings);
-            let most = least.saturating_add(rows).saturating_sub(1);
-            most.checked_div(rows).unwrap_or(0)
-        };
         for (row, event) in self.night.events.iter().enumerate() {
-            let many = due(row.saturating_add(1)).saturating_sub(due(row));
-            for _ in 0..many {
-                self.turns.push((3, board.version()))?;
-            }
+            let many = self
+                .due(row.saturating_add(1))
+                .saturating_sub(self.due(row));
+            self.turns.extend(repeat_n((3, board.version()), many))?;
             self.turns.push((event.reporter.get(), 0))?;
             let _reply = board.report(event.reporter, &event.call);
-            for _ in 0..many {
-                self.turns.push((4, board.version()))?;
-            }
+            self.turns.extend(repeat_n((4, board.version()), many))?;
         }
         Ok(board.version())
     }
@@ -124,9 +125,13 @@ impl<'n, R: Wait + Sync> Watch<'n, R> {
     /// Whether these screens have the versions that the two readers have shown last.
     fn are_last(&self, last: &[Option<String>; 2]) -> bool {
         let shown = self.seen.lock(self.rt).workers;
-        let version = |text: &Option<String>| text.as_ref()?.as_str().get(9..14)?.parse().ok();
-        [version(&last[0]), version(&last[1])] == [shown[2].last, shown[3].last]
+        [version_of(&last[0]), version_of(&last[1])] == [shown[2].last, shown[3].last]
     }
+}
+
+/// The version that a screen tells.
+fn version_of(screen: &Option<String>) -> Option<u16> {
+    screen.as_ref()?.as_str().get(9..14)?.parse().ok()
 }
 
 impl<R> Watch<'_, R> {
@@ -194,6 +199,24 @@ struct Case {
     is_held: bool,
 }
 
+/// Enlists a reporter by this pass, and has it enter this event, if there is one, on both boards; nothing if no number is left.
+pub(crate) fn enlist_other<B: LiveBoard, R: Wait>(
+    rt: &R,
+    board: &B,
+    pass: B::ReaderPass,
+    call: Option<EventCall>,
+    alone: &mut Board,
+) -> Option<()>
+    requires { B.is_reader board.now pass }
+{
+    let mut reporter = board.enlist(rt, pass).ok()?;
+    if let Some(call) = call {
+        let _reply = board.report(rt, &mut reporter, &call);
+        let _reply = alone.report(B::number_of(&reporter), &call);
+    }
+    Some(())
+}
+
 /// Enlists the other reporters of this case, of whom the first kicks off match 12 if there are strangers. Returns the board of what it entered.
 fn with_others<B: LiveBoard, R: Wait>(
     rt: &R,
@@ -207,12 +230,8 @@ fn with_others<B: LiveBoard, R: Wait>(
     let mut alone = Board::fresh();
     for other in 0..case.others {
         let part = board.split(rt, pass);
-        if let (Ok(mut reporter), Some(call)) = (board.enlist(rt, part), kick_off()) {
-            if case.strangers && other == 0 {
-                let _reply = board.report(rt, &mut reporter, &call);
-                let _reply = alone.report(B::number_of(&reporter), &call);
-            }
-        }
+        let call = kick_off(12).filter(|_| case.strangers && other == 0);
+        let _enlisted = enlist_other(rt, board, part, call, &mut alone);
     }
     alone
 }
@@ -230,6 +249,78 @@ fn wanted(case: &Case, version: u16) -> (Option<RunFault>, Option<u8>, bool) {
     (fault, number, is_begun)
 }
 
+/// Returns the number that enlisting this pass gives; nothing if none is left.
+pub(crate) fn next_number<B: LiveBoard, R: Wait>(
+    rt: &R,
+    board: &B,
+    pass: B::ReaderPass,
+) -> Option<u8>
+    requires { B.is_reader board.now pass }
+{
+    let reporter = board.enlist(rt, pass).ok()?;
+    Some(B::number_of(&reporter).get())
+}
+
+/// Whether a night has ended at this version, with the screens that its readers have shown last, and with the first numbers after the others.
+fn is_whole<B: LiveBoard, R: Wait + Sync>(
+    end: &NightEnd<B::ReaderPass, B::ReporterPass>,
+    watch: &Watch<'_, R>,
+    others: u8,
+    version: u16,
+) -> bool {
+    let numbers = [B::number_of(&end.reporter_1), B::number_of(&end.reporter_2)];
+    let numbers = numbers.map(|number| number.get().checked_sub(others));
+    let is_last = watch.are_last(&end.last) && end.settled.version == version;
+    is_last && numbers == [Some(1), Some(2)]
+}
+
+/// How a night has ended: its fault, if any, or else whether it is whole; the version that a pass that was split off before it reads; and the
+/// number that enlisting that pass gives.
+#[derive(Clone, Copy, Debug)]
+struct Ended {
+    fault: Option<RunFault>,
+    is_whole: bool,
+    version: u16,
+    number: Option<u8>,
+}
+
+/// Holds a night beside so many other reporters, and returns how it has ended.
+fn hold_night<B: LiveBoard, R: Threads + Wait + Sync>(
+    rt: &R,
+    alloc: Global,
+    board: &B,
+    mut pass: B::ReaderPass,
+    watch: &Watch<'_, R>,
+    others: u8,
+) -> Ended
+    requires { B.is_reader board.now pass }
+{
+    let (lent, group) = (board.split(rt, &mut pass), letter(watch.group));
+    let readings = watch.most[2];
+    let end = night_run(
+        rt,
+        alloc,
+        board,
+        lent,
+        watch.night,
+        group,
+        readings,
+        watch,
+        Uefa,
+    );
+    let version = board.read(rt, &mut pass).version;
+    let is_whole = match &end {
+        Ok(end) => is_whole::<B, R>(end, watch, others, version),
+        Err(_) => true,
+    };
+    Ended {
+        fault: end.err(),
+        is_whole,
+        version,
+        number: next_number(rt, board, pass),
+    }
+}
+
 /// Holds a night of this case, and returns whether it ends as it has to, whether a pass that was split off before reads the version that it
 /// has to afterwards, and whether enlisting that pass gives the right number.
 fn is_right<B: LiveBoard, R: Threads + Wait + Sync>(
@@ -239,7 +330,7 @@ fn is_right<B: LiveBoard, R: Threads + Wait + Sync>(
     mut pass: B::ReaderPass,
     watch: &mut Watch<'_, R>,
     case: Case,
-) -> Result<bool, AllocError>
+) -> anyhow::Result<bool>
     requires { B.is_reader board.now pass }
 {
     let alone = with_others(rt, board, &mut pass, &case);
@@ -249,41 +340,16 @@ fn is_right<B: LiveBoard, R: Threads + Wait + Sync>(
     } else {
         None
     };
-    let (lent, group) = (board.split(rt, &mut pass), letter(watch.group));
-    let ended = night_run(
-        rt,
-        alloc,
-        board,
-        lent,
-        watch.night,
-        group,
-        watch.most[2],
-        watch,
-        Uefa,
-    );
-    let version = board.read(rt, &mut pass).version;
-    let number = board
-        .enlist(rt, pass)
-        .ok()
-        .map(|pass| B::number_of(&pass).get());
-    let (fault, is_numbered) = match ended {
-        Ok(end) => {
-            let numbers = [B::number_of(&end.reporter_1), B::number_of(&end.reporter_2)];
-            let numbers = numbers.map(|number| number.get().checked_sub(case.others));
-            let is_last = watch.are_last(&end.last) && end.settled.version == version;
-            (None, is_last && numbers == [Some(1), Some(2)])
-        }
-        Err(fault) => (Some(fault), true),
-    };
-    let (wanted_fault, wanted_number, is_begun) = wanted(&case, version);
-    let is_told = fault == wanted_fault && number == wanted_number;
-    let is_left = if is_begun {
-        held.is_none_or(|held| held == version)
+    let ended = hold_night(rt, alloc, board, pass, watch, case.others);
+    let (fault, number, is_begun) = wanted(&case, ended.version);
+    let is_told = ended.is_whole && ended.fault == fault && ended.number == number;
+    let (left, calls) = if is_begun {
+        (held, watch.most)
     } else {
-        before == version
+        (Some(before), [0; 4])
     };
-    let is_seen = watch.has_seen(if is_begun { watch.most } else { [0; 4] });
-    Ok(is_told && is_numbered && is_left && is_seen)
+    let is_left = left.is_none_or(|left| left == ended.version);
+    Ok(is_told && is_left && watch.has_seen(calls))
 }
 
 /// Opens a cell board or a word board, holds a night of this case on it, and returns whether all of it was right.
@@ -296,10 +362,10 @@ fn is_right_on<R: Threads + Wait + Sync>(
 ) -> anyhow::Result<bool> {
     if in_cell {
         let (board, pass) = CellBoard::open(rt, alloc)?;
-        Ok(is_right(rt, alloc, &board, pass, watch, case)?)
+        is_right(rt, alloc, &board, pass, watch, case)
     } else {
         let (board, pass) = WordBoard::open(rt, alloc)?;
-        Ok(is_right(rt, alloc, &board, pass, watch, case)?)
+        is_right(rt, alloc, &board, pass, watch, case)
     }
 }
 
@@ -336,7 +402,7 @@ fn random_rows(alloc: Global, random: &mut Random) -> Result<Vec<NightEvent>, Al
 /// Adds a row of each of reporters 1 and 2 that is refused as stale, since it expects an event number that no match reaches.
 fn end_with_stale(rows: &mut Vec<NightEvent>) -> Result<(), AllocError> {
     for reporter in [1, 2].into_iter().filter_map(ReporterNo::new) {
-        if let Some(mut call) = kick_off() {
+        if let Some(mut call) = kick_off(12) {
             call.expected = u16::MAX;
             rows.push(NightEvent { reporter, call })?;
         }
@@ -399,6 +465,24 @@ fn case_of(random: &mut Random, rows: &mut [NightEvent], at: u32) -> Case {
     }
 }
 
+/// Holds random night `at`, of rows that take the place of the script's. Fails if it ends otherwise than it has to.
+fn random_night<R: Threads + Wait + Sync>(
+    rt: &R,
+    alloc: Global,
+    random: &mut Random,
+    night: &mut Night,
+    at: u32,
+) -> anyhow::Result<()> {
+    let (readings, group) = (at / 32, (at / 4 % 8) as u8);
+    night.events = random_rows(alloc, random)?;
+    let case = case_of(random, &mut night.events, at);
+    let mut watch = Watch::new(rt, alloc, night, group, readings);
+    if !is_right_on(rt, alloc, random.below(2) == 0, &mut watch, case)? {
+        anyhow::bail!("group {group}, {readings} readings, {case:?}");
+    }
+    Ok(())
+}
+
 /// Holds a night of the script on each kind of board; then nights of random rows, of each group and each number of readings up to `most`:
 /// with no cause to fail, with an event of a third reporter, with a row of a reporter other than 1 and 2, and with another set of causes,
 /// such as that no two numbers of reporters are left. Fails if one ends otherwise than it has to.
@@ -415,13 +499,7 @@ pub fn run<R: Print + Threads + Wait + Sync>(
     let readings = u32::try_from(night.events.len())? / 16 + u32::from(random.below(255));
     script_nights(rt, alloc, &night, readings)?;
     for at in 0..most.saturating_add(1).saturating_mul(32) {
-        let (readings, group) = (at / 32, (at / 4 % 8) as u8);
-        night.events = random_rows(alloc, &mut random)?;
-        let case = case_of(&mut random, &mut night.events, at);
-        let mut watch = Watch::new(rt, alloc, &night, group, readings);
-        if !is_right_on(rt, alloc, random.below(2) == 0, &mut watch, case)? {
-            anyhow::bail!("group {group}, {readings} readings, {case:?}");
-        }
+        random_night(rt, alloc, &mut random, &mut night, at)?;
     }
     println!(rt; "all nights are right")?;
     Ok(())

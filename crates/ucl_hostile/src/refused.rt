@@ -2,7 +2,7 @@
 
 ghost use Rattle.std.specs.Prelude.{IfOk};
 
-use crate::nights::kick_off;
+use crate::nights::{enlist_other, kick_off, next_number};
 use anyhow::Context;
 use std::alloc::{AllocError, Global};
 use std::fmt::Debug;
@@ -17,7 +17,7 @@ use ucl_rows::RunFault;
 use ucl_runs::{OpenGate, feed_run, night_run, show_run};
 use ucl_screen::{FromRead, Night, ToWrite, night_of_bytes, read_night, read_words, screen};
 use ucl_steps::{Call, Caller, Cast, Step, run_steps};
-use ucl_word::{EventCall, Kind, MatchNo, OutOfMemory, ReporterNo};
+use ucl_word::{EventCall, OutOfMemory, ReporterNo};
 use ucl_words::WordBoard;
 
 /// No call asks for so many bytes: such requests tell what stands before `malloc` that a call begins, and that it has ended.
@@ -32,6 +32,16 @@ fn mark(alloc: Global, size: usize) -> Result<(), AllocError> {
     Ok(())
 }
 
+/// Makes a call whose requests for memory may be refused: marks where it begins and ends, and returns what it gives.
+fn marked<T: Drop, F: FnOnce() -> T>(alloc: Global, call: F) -> Result<T, AllocError>
+    requires { F.IsAlwaysCallable call }
+{
+    mark(alloc, BEGINS)?;
+    let given = call();
+    mark(alloc, ENDS)?;
+    Ok(given)
+}
+
 /// Prints the outcome of a call that is made twice: the fault of the first, if any; whether what that left or gave is as it has to be
 /// (`is_kept`); and `text`, what the second gave.
 fn tell<E: Debug + Drop, R: Print>(
@@ -40,72 +50,74 @@ fn tell<E: Debug + Drop, R: Print>(
     is_kept: bool,
     text: &str,
 ) -> anyhow::Result<()> {
-    println!(rt; "first {first:?}")?;
-    println!(rt; "kept {is_kept}")?;
-    print!(rt; "{text}")?;
+    print!(rt; "first {first:?}\nkept {is_kept}\n{text}")?;
     Ok(())
+}
+
+/// Prints the outcome of a call that is made twice, as `tell` does: what the first gave has to be what the second gave.
+fn tell_same<T: PartialEq + Drop, E: Debug + Drop, R: Print>(
+    rt: &R,
+    first: Result<T, E>,
+    second: &T,
+    text: &str,
+) -> anyhow::Result<()> {
+    let is_kept = match &first {
+        Ok(given) => given == second,
+        Err(_) => true,
+    };
+    tell(rt, first.err(), is_kept, text)
+}
+
+/// The board after the rows of the script, entered in script order on a fresh board.
+fn board_of(night: &Night) -> Board {
+    let mut board = Board::fresh();
+    for event in &night.events {
+        let _reply = board.report(event.reporter, &event.call);
+    }
+    board
 }
 
 /// Makes the screen of the script in the input twice, and prints both outcomes. The first call may be refused memory.
 fn screens<R: Print>(rt: &R, alloc: Global, input: &[u8]) -> anyhow::Result<()> {
     let night = night_of_bytes(alloc, input)?;
-    let mut board = Board::fresh();
-    for event in &night.events {
-        let _reply = board.report(event.reporter, &event.call);
-    }
-    mark(alloc, BEGINS)?;
-    let first = screen(alloc, &board, &night.roster, b'A', Uefa);
-    mark(alloc, ENDS)?;
+    let board = board_of(&night);
+    let first = marked(alloc, || screen(alloc, &board, &night.roster, b'A', Uefa))?;
     let text = screen(alloc, &board, &night.roster, b'A', Uefa)?;
-    let is_kept = match &first {
-        Ok(done) => done.as_bytes() == text.as_bytes(),
-        Err(_) => true,
-    };
-    tell(rt, first.err(), is_kept, text.as_str())
+    tell_same(rt, first, &text, text.as_str())
 }
 
 /// Reads the input as a script twice, and prints both outcomes. The first call may be refused memory.
 fn scripts<R: Print>(rt: &R, alloc: Global, input: &[u8]) -> anyhow::Result<()> {
-    mark(alloc, BEGINS)?;
-    let first = read_night(alloc, &mut FromRead::new(input));
-    mark(alloc, ENDS)?;
-    let night = night_of_bytes(alloc, input)?;
-    let is_kept = match &first {
-        Ok(done) => done.events.as_slice() == night.events.as_slice(),
-        Err(_) => true,
-    };
-    let text = format!(in alloc; "{} events\n", night.events.len())?;
-    tell(rt, first.err(), is_kept, text.as_str())
+    let first = marked(alloc, || read_night(alloc, &mut FromRead::new(input)))?;
+    let events = night_of_bytes(alloc, input)?.events;
+    let text = format!(in alloc; "{} events\n", events.len())?;
+    tell_same(rt, first.map(|night| night.events), &events, text.as_str())
 }
 
 /// Reads the input as a sheet twice, and prints both outcomes. The first call may be refused memory.
 fn sheets<R: Print>(rt: &R, alloc: Global, input: &[u8]) -> anyhow::Result<()> {
-    mark(alloc, BEGINS)?;
-    let first = read_words(alloc, &mut FromRead::new(input));
-    mark(alloc, ENDS)?;
+    let first = marked(alloc, || read_words(alloc, &mut FromRead::new(input)))?;
     let sheet = read_words(alloc, &mut FromRead::new(input))?;
-    let is_kept = match &first {
-        Ok(done) => done.board == sheet.board,
-        Err(_) => true,
-    };
     let text = screen(alloc, &sheet.board, &sheet.roster, b'A', Uefa)?;
-    tell(rt, first.err(), is_kept, text.as_str())
+    let first = first.map(|sheet| sheet.board);
+    tell_same(rt, first, &sheet.board, text.as_str())
 }
 
-/// Reads the words of the input as a command line of `ucl_night` twice, and prints both outcomes. The first call may be refused memory.
-fn lines<R: Print>(rt: &R, alloc: Global, input: &[u8]) -> anyhow::Result<()> {
+/// The words of the input, which spaces part.
+fn words_of(alloc: Global, input: &[u8]) -> anyhow::Result<Vec<String>> {
     let mut words = Vec::new(alloc);
     for word in std::str::from_utf8(input)?.split_whitespace() {
         words.push(String::from_str(alloc, word)?)?;
     }
-    mark(alloc, BEGINS)?;
-    let first = line_of(alloc, &words);
-    mark(alloc, ENDS)?;
+    Ok(words)
+}
+
+/// Reads the words of the input as a command line of `ucl_night` twice, and prints both outcomes. The first call may be refused memory.
+fn lines<R: Print>(rt: &R, alloc: Global, input: &[u8]) -> anyhow::Result<()> {
+    let words = words_of(alloc, input)?;
+    let first = marked(alloc, || line_of(alloc, &words))?;
     let second = line_of(alloc, &words);
-    let is_kept = match (&first, &second) {
-        (Ok(done), Ok(line)) => done == line,
-        _ => first.is_err(),
-    };
+    let is_kept = first.is_err() || first.as_ref().ok() == second.as_ref().ok();
     let text = format!(in alloc; "{second:?}\n")?;
     tell(rt, first.err(), is_kept, text.as_str())
 }
@@ -113,11 +125,7 @@ fn lines<R: Print>(rt: &R, alloc: Global, input: &[u8]) -> anyhow::Result<()> {
 /// The steps in which a reporter kicks off match 1, and then a reader takes so many readings.
 fn run_of(alloc: Global, readings: usize) -> anyhow::Result<Vec<Step>> {
     let reporter = Caller::Reporter(ReporterNo::new(1).context("no such reporter")?);
-    let kick_off = EventCall {
-        game: MatchNo::new(1).context("no such match")?,
-        expected: 0,
-        kind: Kind::KickOff,
-    };
+    let kick_off = kick_off(1).context("no such match")?;
     let reader = Caller::Reader(1);
     let mut steps = Vec::new(alloc);
     steps.extend_from_slice(&[
@@ -143,17 +151,12 @@ fn steps<R: Print>(rt: &R, alloc: Global, input: &[u8]) -> anyhow::Result<()> {
         readers: 1,
     };
     let steps = run_of(alloc, input.len().saturating_add(1))?;
-    mark(alloc, BEGINS)?;
-    let first = run_steps(alloc, &cast, &steps);
-    mark(alloc, ENDS)?;
+    let first = marked(alloc, || run_steps(alloc, &cast, &steps))?;
     let trace = run_steps(alloc, &cast, &steps)?;
-    let is_kept = match &first {
-        Ok(done) => done.words == trace.words,
-        Err(_) => true,
-    };
     let (entries, calls) = (trace.history.len(), trace.calls.len());
     let text = format!(in alloc; "{entries} entries, {calls} calls\n")?;
-    tell(rt, first.err(), is_kept, text.as_str())
+    let first = first.map(|trace| trace.words);
+    tell_same(rt, first, &trace.words, text.as_str())
 }
 
 /// Prints the outcome of opening a board twice. A board that the first call has opened has to read as the second, which is fresh.
@@ -239,22 +242,11 @@ fn answered(
 /// Runs `feed` or `show` over the input twice, and prints both outcomes. The first run may be refused memory.
 fn runs<R: Print>(rt: &R, alloc: Global, engine: Engine, input: &[u8]) -> anyhow::Result<()> {
     let mut part = Vec::with_capacity(alloc, 8192)?;
-    mark(alloc, BEGINS)?;
-    let first = answered(alloc, engine, input, &mut part);
-    mark(alloc, ENDS)?;
+    let first = marked(alloc, || answered(alloc, engine, input, &mut part))?;
     let mut whole = Vec::with_capacity(alloc, 8192)?;
     answered(alloc, engine, input, &mut whole)?;
     let is_kept = whole.starts_with(&part) && (first.is_err() || part.len() == whole.len());
     tell(rt, first.err(), is_kept, std::str::from_utf8(&whole)?)
-}
-
-/// How many rows of the script are accepted if they are entered in script order on a fresh board.
-fn taken_of(night: &Night) -> u16 {
-    let mut board = Board::fresh();
-    for event in &night.events {
-        let _reply = board.report(event.reporter, &event.call);
-    }
-    board.version()
 }
 
 /// Whether `read`, the board after a night, is `alone`, the board before it, with rows of the script entered and no other event: of each
@@ -268,6 +260,43 @@ fn is_of_rows(read: &Board, night: &Night, mut alone: Board, earlier: u8) -> boo
         }
     }
     alone == *read
+}
+
+/// Holds a night of the script, where memory may be refused, between marks, and returns its fault, if any.
+fn marked_night<B: LiveBoard, R: Threads + Wait + Sync>(
+    rt: &R,
+    alloc: Global,
+    board: &B,
+    pass: B::ReaderPass,
+    night: &Night,
+) -> Result<Option<RunFault>, AllocError>
+    requires { B.is_reader board.now pass }
+{
+    mark(alloc, BEGINS)?;
+    let ended = night_run(rt, alloc, board, pass, night, b'A', 1, &OpenGate, Uefa);
+    mark(alloc, ENDS)?;
+    Ok(ended.err())
+}
+
+/// Whether a pass split off before a night reads only `begun` and rows of the script, all accepted ones if the night ended well, and whether
+/// its number shows that two reporters at most were enlisted after the `earlier` ones.
+fn is_left<B: LiveBoard, R: Wait>(
+    rt: &R,
+    board: &B,
+    mut watcher: B::ReaderPass,
+    night: &Night,
+    begun: Board,
+    earlier: u8,
+    is_ended: bool,
+) -> bool
+    requires { B.is_reader board.now watcher }
+{
+    let kept = board.read(rt, &mut watcher);
+    let most = begun.version().saturating_add(3);
+    let number = next_number(rt, board, watcher);
+    let is_alone = number.is_some_and(|number| u16::from(number) <= most);
+    let is_whole = !is_ended || kept.version == board_of(night).version();
+    is_whole && is_alone && is_of_rows(&kept.board, night, begun, earlier)
 }
 
 /// Holds a night of the script on the first board, where memory may be refused, and one on the second, and prints both outcomes. A third
@@ -286,24 +315,15 @@ fn nights<B: LiveBoard + Drop, R: Print + Threads + Wait + Sync>(
     let (board, mut pass) = first;
     let (mut begun, earlier) = (Board::fresh(), u8::from(entered.is_some()));
     let part = board.split(rt, &mut pass);
-    if let Some(call) = entered {
-        let mut stranger = board.enlist(rt, part).ok().context("no number is left")?;
-        let _reply = board.report(rt, &mut stranger, &call);
-        let _reply = begun.report(B::number_of(&stranger), &call);
+    if entered.is_some() {
+        enlist_other(rt, &board, part, entered, &mut begun).context("no number is left")?;
     }
-    let mut watcher = board.split(rt, &mut pass);
-    mark(alloc, BEGINS)?;
-    let one = night_run(rt, alloc, &board, pass, night, b'A', 1, &OpenGate, Uefa);
-    mark(alloc, ENDS)?;
-    let kept = board.read(rt, &mut watcher);
-    let is_whole = one.is_err() || kept.version == taken_of(night);
-    let number = board.enlist(rt, watcher).ok();
-    let most = begun.version().saturating_add(3);
-    let is_alone = number.is_some_and(|pass| u16::from(B::number_of(&pass).get()) <= most);
-    let is_kept = is_whole && is_alone && is_of_rows(&kept.board, night, begun, earlier);
+    let watcher = board.split(rt, &mut pass);
+    let fault = marked_night(rt, alloc, &board, pass, night)?;
+    let is_kept = is_left(rt, &board, watcher, night, begun, earlier, fault.is_none());
     let (board, pass) = second;
     let other = night_run(rt, alloc, &board, pass, night, b'A', 1, &OpenGate, Uefa)?;
-    tell(rt, one.err(), is_kept, other.closing.as_str())
+    tell(rt, fault, is_kept, other.closing.as_str())
 }
 
 /// Holds a night on a board that has one number of a reporter left, and prints the fault, and whether the night has used up that number.
@@ -318,14 +338,12 @@ fn full_night<B: LiveBoard, R: Print + Threads + Wait + Sync>(
 {
     for _number in 0..254 {
         let part = board.split(rt, &mut pass);
-        let _reporter = board.enlist(rt, part).ok().context("no number is left")?;
+        next_number(rt, board, part).context("no number is left")?;
     }
     let watcher = board.split(rt, &mut pass);
-    mark(alloc, BEGINS)?;
-    let one = night_run(rt, alloc, board, pass, night, b'A', 1, &OpenGate, Uefa);
-    mark(alloc, ENDS)?;
-    let is_full = board.enlist(rt, watcher).is_err();
-    tell(rt, one.err(), is_full, "")
+    let fault = marked_night(rt, alloc, board, pass, night)?;
+    let is_full = next_number(rt, board, watcher).is_none();
+    tell(rt, fault, is_full, "")
 }
 
 /// Holds two nights of the script in the input on word boards of their own, as `nights` does.
@@ -375,7 +393,7 @@ pub fn run<R: Print + Threads + Wait + Sync>(
         "feed_run" => runs(rt, alloc, Engine::Feed, input),
         "show_run" => runs(rt, alloc, Engine::Show, input),
         "night_run" => word_nights(rt, alloc, input, None),
-        "night_run_beside_a_stranger" => word_nights(rt, alloc, input, kick_off()),
+        "night_run_beside_a_stranger" => word_nights(rt, alloc, input, kick_off(12)),
         "night_run_on_a_full_board" => full_word_night(rt, alloc, input),
         "night_run_in_a_cell" => cell_nights(rt, alloc, input),
         "run_steps" => steps(rt, alloc, input),

@@ -1,5 +1,7 @@
 //! Random nights on both boards, of two reporters and a reader in threads of their own. Each answer is compared with the board of one thread.
 
+ghost use Rattle.std.specs.Prelude.{IfOk};
+
 use anyhow::Context;
 use std::alloc::{AllocError, Global};
 use std::sync::Wait;
@@ -241,7 +243,7 @@ fn are_whole(readings: &[Reading]) -> bool {
 }
 
 /// Whether all replies and readings of a night are as on a board of one thread, and the last reading, the settled one, has all its events.
-fn are_right(alloc: Global, entered: &[Entered], readings: &[Reading]) -> Result<bool, AllocError> {
+fn are_right(alloc: Global, entered: &[Entered], readings: &[Reading]) -> anyhow::Result<bool> {
     let mut version = 0usize;
     for game in (1..13).filter_map(MatchNo::new) {
         match replayed(alloc, entered, readings, game)? {
@@ -255,6 +257,38 @@ fn are_right(alloc: Global, entered: &[Entered], readings: &[Reading]) -> Result
     Ok(is_counted && are_whole(readings))
 }
 
+/// Enlists a reporter by a pass that is split off this one.
+fn enlisted<B: LiveBoard, R: Wait>(
+    rt: &R,
+    board: &B,
+    reader: &mut B::ReaderPass,
+) -> anyhow::Result<B::ReporterPass>
+    requires { B.is_reader board.now reader.old }
+    ensures reader { B.is_reader board.now reader.new }
+    ensures reporter { IfOk result (B.is_reporter board.now) }
+{
+    let pass = board.split(rt, reader);
+    board.enlist(rt, pass).ok().context("no number is left")
+}
+
+/// Settles a night, and returns whether all replies and readings, with the settled one after them, are as on a board of one thread.
+fn settles<B: LiveBoard, R: Wait>(
+    rt: &R,
+    alloc: Global,
+    board: &B,
+    mut reporters: (B::ReporterPass, B::ReporterPass),
+    entered: &[Entered],
+    mut readings: Vec<Reading>,
+) -> anyhow::Result<bool>
+    requires { B.is_reporter board.now reporters.0 × B.is_reporter board.now reporters.1 }
+{
+    let settled = settle(board, rt, &mut reporters.0, &mut reporters.1)
+        .ok()
+        .context("strangers")?;
+    readings.push(settled)?;
+    are_right(alloc, entered, &readings)
+}
+
 /// Holds a random night of this seed on a board, with two reporters and a reader in threads, and returns whether all replies and readings
 /// are as on a board of one thread.
 fn agrees<B: LiveBoard, R: Threads + Wait + Sync>(
@@ -266,11 +300,9 @@ fn agrees<B: LiveBoard, R: Threads + Wait + Sync>(
 ) -> anyhow::Result<bool>
     requires { B.is_reader board.now reader }
 {
-    let pass = board.split(rt, &mut reader);
-    let first = board.enlist(rt, pass).ok().context("no number is left")?;
-    let pass = board.split(rt, &mut reader);
-    let second = board.enlist(rt, pass).ok().context("no number is left")?;
-    let ((mut first, entered), ((mut second, more), readings)) = thread::join(
+    let first = enlisted(rt, board, &mut reader)?;
+    let second = enlisted(rt, board, &mut reader)?;
+    let ((first, entered), ((second, more), readings)) = thread::join(
         rt,
         move || -> (B::ReporterPass, Result<Vec<Entered>, AllocError>)
             requires { B.is_reporter board.now first }
@@ -303,13 +335,25 @@ fn agrees<B: LiveBoard, R: Threads + Wait + Sync>(
             )
         },
     );
-    let (mut entered, mut readings) = (entered?, readings?);
+    let (mut entered, readings) = (entered?, readings?);
     entered.extend_from_slice(&more?)?;
-    let settled = settle(board, rt, &mut first, &mut second)
-        .ok()
-        .context("strangers")?;
-    readings.push(settled)?;
-    Ok(are_right(alloc, &entered, &readings)?)
+    settles(rt, alloc, board, (first, second), &entered, readings)
+}
+
+/// Holds a random night of this seed on a cell board, as `agrees` does.
+fn cell_agrees<R: Threads + Wait + Sync>(rt: &R, alloc: Global, seed: u64) -> anyhow::Result<bool> {
+    let (board, reader) = CellBoard::open(rt, alloc)?;
+    agrees(rt, alloc, &board, reader, seed)
+}
+
+/// Holds a random night of this seed on a word board, as `agrees` does.
+fn table_agrees<R: Threads + Wait + Sync>(
+    rt: &R,
+    alloc: Global,
+    seed: u64,
+) -> anyhow::Result<bool> {
+    let (board, reader) = WordBoard::open(rt, alloc)?;
+    agrees(rt, alloc, &board, reader, seed)
 }
 
 /// Holds so many random nights on each kind of board, and prints how many of them do not agree with a board of one thread.
@@ -322,10 +366,8 @@ pub fn run<R: Print + Threads + Wait + Sync>(
     let mut differ = 0u64;
     for night in 0..nights {
         let seed = seed.wrapping_add(night);
-        let (board, reader) = CellBoard::open(rt, alloc)?;
-        let in_cell = agrees(rt, alloc, &board, reader, seed)?;
-        let (board, reader) = WordBoard::open(rt, alloc)?;
-        let in_words = agrees(rt, alloc, &board, reader, seed)?;
+        let in_cell = cell_agrees(rt, alloc, seed)?;
+        let in_words = table_agrees(rt, alloc, seed)?;
         if !in_cell || !in_words {
             println!(rt; "seed {seed}: cell board {in_cell}, word board {in_words}")?;
             differ = differ.saturating_add(1);
