@@ -23,51 +23,77 @@ fn is_line(alloc: Global, fault: InputFault, line: &str) -> bool {
     is_written(alloc, &fault, line) && is_written(alloc, &RunFault::Input(fault), line)
 }
 
+/// Whether the faults of the word with this number, in an input and on a board, are written as their lines.
+fn is_bad_word_written(alloc: Global, index: u8) -> Result<bool, Fail> {
+    let line = format!(in alloc; "input refused 10: word {index}")?;
+    let own = format!(in alloc; "bad word 10: word {index}")?;
+    Ok(
+        is_line(alloc, InputFault::BadWordAt { index }, line.as_str())
+            && is_written(alloc, &BadWordAt { index }, own.as_str()),
+    )
+}
+
+/// Whether the faults of the club in this slot, in an input and in a roster, are written as their lines.
+fn is_bad_roster_written(alloc: Global, slot: u8) -> Result<bool, Fail> {
+    let line = format!(in alloc; "input refused 21: slot {slot}")?;
+    let own = format!(in alloc; "bad roster 21: slot {slot}")?;
+    Ok(
+        is_line(alloc, InputFault::BadRoster { slot }, line.as_str())
+            && is_written(alloc, &BadRoster { slot }, own.as_str()),
+    )
+}
+
+/// Whether the fault of a row with this number is written as its line.
+fn is_bad_row_written(alloc: Global, row: u32) -> Result<bool, Fail> {
+    let line = format!(in alloc; "input refused 20: row {row}")?;
+    Ok(is_line(alloc, InputFault::BadRow { row }, line.as_str()))
+}
+
+/// Whether the fault of a reading that fails after so many bytes is written as its line.
+fn is_failed_reading_written(alloc: Global, bytes: usize) -> Result<bool, Fail> {
+    let line = format!(in alloc; "reading failed 22: after {bytes} bytes")?;
+    Ok(is_line(alloc, InputFault::ReadFailed { bytes }, line.as_str()))
+}
+
+/// Whether each fault that has no number is written as its line.
+fn are_others_written(alloc: Global) -> bool {
+    is_line(alloc, InputFault::OutOfMemory, "out of memory 23")
+        && is_line(alloc, InputFault::TooLong, "input refused 24: too long")
+        && is_written(alloc, &BadWord, "bad word 10")
+        && is_written(alloc, &OutOfMemory, "out of memory 23")
+}
+
+/// Numbers of bytes at which lists grow and reads end, and the largest.
+static BYTES: [usize; 11] = [
+    0,
+    1,
+    9,
+    10,
+    4095,
+    4096,
+    16_384,
+    31_415,
+    4_194_303,
+    4_194_304,
+    usize::MAX,
+];
+
 /// Each fault of an input is written as its line: for each number of a word or slot, for rows up to a large number, and for numbers of
 /// bytes at which lists grow and reads end.
 #[test]
 fn faults_of_an_input(rt: HostRuntime) -> Result<(), Fail> {
     let alloc = rt.alloc();
     for number in 0..=u8::MAX {
-        let word = format!(in alloc; "input refused 10: word {number}")?;
-        assert!(rt;
-            is_line(
-                alloc,
-                InputFault::BadWordAt { index: number },
-                word.as_str()
-            )
-        );
-        let own = format!(in alloc; "bad word 10: word {number}")?;
-        assert!(rt; is_written(alloc, &BadWordAt { index: number }, own.as_str()));
-        let slot = format!(in alloc; "input refused 21: slot {number}")?;
-        assert!(rt; is_line(alloc, InputFault::BadRoster { slot: number }, slot.as_str()));
-        let own = format!(in alloc; "bad roster 21: slot {number}")?;
-        assert!(rt; is_written(alloc, &BadRoster { slot: number }, own.as_str()));
+        assert!(rt; is_bad_word_written(alloc, number)?);
+        assert!(rt; is_bad_roster_written(alloc, number)?);
     }
     for row in (0..5_000).chain([9_999, 10_000, 65_535, 65_536, 299_590, u32::MAX]) {
-        let line = format!(in alloc; "input refused 20: row {row}")?;
-        assert!(rt; is_line(alloc, InputFault::BadRow { row }, line.as_str()));
+        assert!(rt; is_bad_row_written(alloc, row)?);
     }
-    for bytes in [
-        0,
-        1,
-        9,
-        10,
-        4095,
-        4096,
-        16_384,
-        31_415,
-        4_194_303,
-        4_194_304,
-        usize::MAX,
-    ] {
-        let line = format!(in alloc; "reading failed 22: after {bytes} bytes")?;
-        assert!(rt; is_line(alloc, InputFault::ReadFailed { bytes }, line.as_str()));
+    for bytes in BYTES {
+        assert!(rt; is_failed_reading_written(alloc, bytes)?);
     }
-    assert!(rt; is_line(alloc, InputFault::OutOfMemory, "out of memory 23"));
-    assert!(rt; is_line(alloc, InputFault::TooLong, "input refused 24: too long"));
-    assert!(rt; is_written(alloc, &BadWord, "bad word 10"));
-    assert!(rt; is_written(alloc, &OutOfMemory, "out of memory 23"));
+    assert!(rt; are_others_written(alloc));
     Ok(())
 }
 
