@@ -204,10 +204,17 @@ fn first_missing<'a>(text: &str, lines: &[&'a str]) -> Option<&'a str> {
     None
 }
 
+/// What `feed` writes for the rows of the clubs and rows in two parts.
+fn fed(alloc: Global, script: &str, more: &str) -> Result<String, Fail> {
+    let text = joined(alloc, &[CLUBS, script, more])?;
+    written(alloc, Run::Feed, text.as_str())
+}
+
 /// What `show` writes for the rows of the clubs and the word lines of a text.
 fn shown_words(alloc: Global, text: &str) -> Result<String, Fail> {
     let words = words_in(text).ok_or("no words")?;
-    written(alloc, Run::Show, joined(alloc, &[CLUBS, words])?.as_str())
+    let sheet = joined(alloc, &[CLUBS, words])?;
+    written(alloc, Run::Show, sheet.as_str())
 }
 
 /// The word lines that `feed` writes for a script are, after its club rows, a sheet for which `show` writes the listed screen.
@@ -215,10 +222,10 @@ fn shown_words(alloc: Global, text: &str) -> Result<String, Fail> {
 fn scripts_are_fed_and_shown(rt: HostRuntime) -> Result<(), Fail> {
     let alloc = rt.alloc();
     for &(script, more, accepted, lines, screen) in SCRIPTS.as_slice() {
-        let script = joined(alloc, &[CLUBS, script, more])?;
-        let fed = written(alloc, Run::Feed, script.as_str())?;
-        assert_eq!(rt; fed.as_str().matches(" ok ").count(), accepted);
-        assert_eq!(rt; first_missing(fed.as_str(), &lines), None);
+        let fed = fed(alloc, script, more)?;
+        let counted = fed.as_str().matches(" ok ").count();
+        let missing = first_missing(fed.as_str(), &lines);
+        assert_eq!(rt; (counted, missing), (accepted, None));
         let shown = shown_words(alloc, fed.as_str())?;
         assert!(rt; shown.as_str().ends_with(screen), "{}", shown.as_str());
     }
