@@ -7,7 +7,6 @@ use std::sync::Wait;
 use std::test::Fail;
 use std::thread;
 use std::thread::Threads;
-use ucl_board::Reading;
 use ucl_pass::{CellBoard, LiveBoard, Strangers, TooManyReporters, settle};
 use ucl_word::Kind::{Disallow, FullTime, Goal, KickOff, Reopen, SecondYellow, Yellow};
 use ucl_word::Side::{Away, Home};
@@ -437,19 +436,20 @@ fn kicked_off(
     Some((pass, reply))
 }
 
-/// Two reporters enter one kick-off. Returns both replies, and what the second, after meeting the first, and a reader read. Makes each of
-/// the six calls of a word board that cannot wait.
-fn one_kick_off_by_two(
-    board: &WordBoard,
-    reader: &mut WordReaderPass,
-) -> Option<([Result<Accepted, Refusal>; 2], [Reading; 2])>
+/// Both replies to a kick-off, the version and the word of match 3 that the second reporter reads, and whether a reader reads the same.
+type KickedOff = ([Result<Accepted, Refusal>; 2], u16, u64, bool);
+
+/// Two reporters enter one kick-off, and meet before the second reads. Makes each of the six calls of a word board that cannot wait.
+fn one_kick_off_by_two(board: &WordBoard, reader: &mut WordReaderPass) -> Option<KickedOff>
     requires { reader.old.board ≡ board.now }
 {
     let (mut first, accepted) = kicked_off(board, reader)?;
     let (mut second, refused) = kicked_off(board, reader)?;
     board.meet_now(&mut first, &mut second);
     let own = board.read_own_now(&mut second);
-    Some(([accepted, refused], [own, board.read_now(reader)]))
+    let is_same = board.read_now(reader) == own;
+    let word = own.board.words()[2];
+    Some(([accepted, refused], own.version, word, is_same))
 }
 
 /// If two reporters enter one kick-off by calls that cannot wait, the second is refused as stale, and it and a reader read the same board
@@ -457,9 +457,8 @@ fn one_kick_off_by_two(
 #[test]
 fn calls_that_cannot_wait(rt: HostRuntime) -> Result<(), Fail> {
     let (board, mut reader) = WordBoard::open(&rt, rt.alloc())?;
-    let (answers, [own, read]) = one_kick_off_by_two(&board, &mut reader).ok_or("no number")?;
-    let wanted = [Ok(Accepted { number: 1 }), Err(Refusal::Stale { found: 1 })];
-    let found = (answers, own.version, own.board.words()[2], read == own);
-    assert_eq!(rt; found, (wanted, 1, 0x2001000000001001, true));
+    let kicked_off = one_kick_off_by_two(&board, &mut reader);
+    let replies = [Ok(Accepted { number: 1 }), Err(Refusal::Stale { found: 1 })];
+    assert_eq!(rt; kicked_off, Some((replies, 1, 0x2001000000001001, true)));
     Ok(())
 }

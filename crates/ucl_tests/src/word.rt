@@ -185,12 +185,16 @@ fn words_with(others: u64, fourth: u64, ninth: u64) -> [u64; 12] {
     words
 }
 
+/// The words of the board of these words, or the first bad one.
+fn words_read(words: &[u64; 12]) -> Result<[u64; 12], BadWordAt> {
+    Ok(Board::of_words(words)?.words())
+}
+
 /// A board is made from words of both layouts, and gives words of the present one. If words are bad, the first is told.
 #[test]
 fn boards_of_words(rt: HostRuntime) {
     for &(others, fourth, ninth, told) in BOARDS.as_slice() {
-        let words = words_with(others, fourth, ninth);
-        let read = Board::of_words(&words).map(|board| board.words());
+        let read = words_read(&words_with(others, fourth, ninth));
         let wanted = told.map(|(fourth, ninth)| words_with(FRESH, fourth, ninth));
         assert_eq!(rt; read, wanted, "at {fourth:x} and {ninth:x}");
     }
