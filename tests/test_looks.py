@@ -144,7 +144,7 @@ def test_a_crate_that_is_not_trusted(tmp_path):
 
 # Tests that go, by what is done to a file: the name that the look has to tell, with what is there of it.
 GONE = {
-    "a module": ("crates/ucl_tests/src/lib.rt", "#[cfg(test)]\nmod nights;\n", "", "ucl_tests::nights::gates: no such test"),
+    "a module": ("crates/ucl_run_tests/src/lib.rt", "#[cfg(test)]\nmod nights;\n", "", "ucl_run_tests::nights::gates: no such test"),
     "a test in Rattle": ("crates/ucl_tests/src/word.rt", "#[test]\nfn refusals_are_written(", "fn refusals_are_written(", "ucl_tests::word::refusals_are_written: no such test"),
     "a crate of tests": ("crates.txt", "\nucl_tests ", "\n#ucl_tests ", "ucl_tests::word::refusals_are_written: no such test"),
     "a file": ("tests/test_build.py", None, None, "test_build.py::"),

@@ -1,13 +1,12 @@
 //! What every live board does, by one and by several threads; and the calls of the word board that cannot wait.
 
-ghost use Rattle.std.specs.Prelude.{◌≡◌, IfSome, IfOk};
+ghost use Rattle.std.specs.Prelude.{◌≡◌, IfSome};
 
-use std::alloc::{AllocError, Global};
+use std::alloc::Global;
 use std::sync::Wait;
 use std::test::Fail;
 use std::thread;
 use std::thread::Threads;
-use ucl_board::Reading;
 use ucl_pass::{CellBoard, LiveBoard, Strangers, TooManyReporters, settle};
 use ucl_word::Kind::{Disallow, FullTime, Goal, KickOff, Reopen, SecondYellow, Yellow};
 use ucl_word::Side::{Away, Home};
@@ -203,24 +202,25 @@ fn settling(rt: HostRuntime) -> Result<(), Fail> {
     Ok(())
 }
 
-/// The passes of 255 reporters, enlisted one after the other; nothing if one does not get the next number, from 1 to 255.
+/// The passes of 255 reporters, enlisted one after the other; nothing if one does not get the next number, from 1 to 255, or if there is no
+/// memory for them.
 fn all_enlisted<B: LiveBoard, R: Wait>(
     rt: &R,
     alloc: Global,
     board: &B,
     reader: &mut B::ReaderPass,
-) -> Result<Option<Vec<B::ReporterPass>>, AllocError>
+) -> Option<Vec<B::ReporterPass>>
     requires { B.is_reader board.now reader.old }
-    ensures { IfOk result (λ passes. IfSome passes (λ _. B.is_reader board.now reader.new)) }
+    ensures { IfSome result (λ _. B.is_reader board.now reader.new) }
 {
     let mut kept = Vec::new(alloc);
     for number in 1..=255 {
         match enlisted(rt, board, reader) {
-            Some(pass) if B::number_of(&pass).get() == number => kept.push(pass)?,
-            _ => return Ok(None),
+            Some(pass) if B::number_of(&pass).get() == number => kept.push(pass).ok()?,
+            _ => return None,
         }
     }
-    Ok(Some(kept))
+    Some(kept)
 }
 
 /// The version that a pass reads which the board could not enlist, having no number left; nothing if it was enlisted.
@@ -240,21 +240,19 @@ fn version_where_full<B: LiveBoard, R: Wait>(
 }
 
 /// Enlists 255 reporters, and then tries to enlist one more, while their passes are kept and after they are dropped. Returns the version
-/// that the refused pass reads, each time; nothing where a pass was enlisted, or if one of the 255 got a wrong number.
+/// that the refused pass reads, each time; nothing where a pass was enlisted, or if one of the 255 got a wrong number or there is no memory.
 fn all_numbers_on<B: LiveBoard, R: Wait>(
     rt: &R,
     alloc: Global,
     board: &B,
     mut reader: B::ReaderPass,
-) -> Result<Option<[Option<u16>; 2]>, AllocError>
+) -> Option<[Option<u16>; 2]>
     requires { B.is_reader board.now reader }
 {
-    let Some(kept) = all_enlisted(rt, alloc, board, &mut reader)? else {
-        return Ok(None);
-    };
+    let kept = all_enlisted(rt, alloc, board, &mut reader)?;
     let beside = version_where_full(rt, board, &mut reader);
     drop(kept);
-    Ok(Some([beside, version_where_full(rt, board, &mut reader)]))
+    Some([beside, version_where_full(rt, board, &mut reader)])
 }
 
 /// Both kinds of boards give each number from 1 to 255 once, and then enlist no reporter, even after all passes are dropped.
@@ -262,9 +260,9 @@ fn all_numbers_on<B: LiveBoard, R: Wait>(
 fn all_numbers(rt: HostRuntime) -> Result<(), Fail> {
     let alloc = rt.alloc();
     let (board, reader) = CellBoard::open(&rt, alloc)?;
-    let in_cell = all_numbers_on(&rt, alloc, &board, reader)?;
+    let in_cell = all_numbers_on(&rt, alloc, &board, reader);
     let (board, reader) = WordBoard::open(&rt, alloc)?;
-    let in_words = all_numbers_on(&rt, alloc, &board, reader)?;
+    let in_words = all_numbers_on(&rt, alloc, &board, reader);
     assert_eq!(rt; [in_cell, in_words], [Some([Some(0); 2]); 2]);
     Ok(())
 }
@@ -301,8 +299,35 @@ fn enter_all<B: LiveBoard, R: Wait>(rt: &R, board: &B, pass: &mut B::ReporterPas
     (B::accepted_of(pass), board.read_own(rt, pass).version)
 }
 
-/// On a board on which all matches have all their events, the first match and kind whose event is not refused as it has to be: to reopen a
-/// match for want of an event number, any other since the match is finished.
+/// Why a later event of this kind is refused in a match that has all its events: to reopen it for want of an event number, any other since
+/// the match is finished.
+fn late_refusal(kind: Kind) -> Refusal {
+    match kind {
+        Reopen => Refusal::NumberFull,
+        _ => Refusal::Finished,
+    }
+}
+
+/// The first kind whose event is not refused as it has to be in a match that has all its events.
+fn first_late_in<B: LiveBoard, R: Wait>(
+    rt: &R,
+    board: &B,
+    pass: &mut B::ReporterPass,
+    game: MatchNo,
+) -> Option<Kind>
+    requires { B.is_reporter board.now pass.old }
+    ensures { B.is_reporter board.now pass.new }
+{
+    for code in 0..13u32 {
+        let kind = Kind::from_code(code)?;
+        if reply_to(rt, board, pass, (game, MOST, kind)) != Err(late_refusal(kind)) {
+            return Some(kind);
+        }
+    }
+    None
+}
+
+/// On a board on which all matches have all their events, the first match and kind whose event is not refused as it has to be.
 fn first_late<B: LiveBoard, R: Wait>(
     rt: &R,
     board: &B,
@@ -311,16 +336,8 @@ fn first_late<B: LiveBoard, R: Wait>(
     requires { B.is_reporter board.now pass.old }
 {
     for number in 1..13u8 {
-        for code in 0..13u32 {
-            let (game, kind) = (MatchNo::new(number)?, Kind::from_code(code)?);
-            let refusal = if kind == Reopen {
-                Refusal::NumberFull
-            } else {
-                Refusal::Finished
-            };
-            if reply_to(rt, board, pass, (game, MOST, kind)) != Err(refusal) {
-                return Some((number, kind));
-            }
+        if let Some(kind) = first_late_in(rt, board, pass, MatchNo::new(number)?) {
+            return Some((number, kind));
         }
     }
     None
@@ -390,6 +407,16 @@ fn all_events_with_two_readers(rt: HostRuntime) -> Result<(), Fail> {
     Ok(())
 }
 
+/// Makes a reporter's pass of a word board; nothing if no number is left.
+fn enlisted_now(board: &WordBoard, reader: &mut WordReaderPass) -> Option<WordReporterPass>
+    requires { reader.old.board ≡ board.now }
+    ensures own { reader.new.board ≡ board.now }
+    ensures enlisted { IfSome result (λ pass. pass.board ≡ board.now) }
+{
+    let pass = board.split_now(reader);
+    board.enlist_now(pass).ok()
+}
+
 /// A new reporter of a word board, and the reply to its kick-off of match 3.
 fn kicked_off(
     board: &WordBoard,
@@ -399,8 +426,7 @@ fn kicked_off(
     ensures own { reader.new.board ≡ board.now }
     ensures enlisted { IfSome result (λ it. it.0.board ≡ board.now) }
 {
-    let pass = board.split_now(reader);
-    let mut pass = board.enlist_now(pass).ok()?;
+    let mut pass = enlisted_now(board, reader)?;
     let call = EventCall {
         game: MatchNo::new(3)?,
         expected: 0,
@@ -410,19 +436,20 @@ fn kicked_off(
     Some((pass, reply))
 }
 
-/// Two reporters enter one kick-off. Returns both replies, and what the second, after meeting the first, and a reader read. Makes each of
-/// the six calls of a word board that cannot wait.
-fn one_kick_off_by_two(
-    board: &WordBoard,
-    reader: &mut WordReaderPass,
-) -> Option<([Result<Accepted, Refusal>; 2], [Reading; 2])>
+/// Both replies to a kick-off, the version and the word of match 3 that the second reporter reads, and whether a reader reads the same.
+type KickedOff = ([Result<Accepted, Refusal>; 2], u16, u64, bool);
+
+/// Two reporters enter one kick-off, and meet before the second reads. Makes each of the six calls of a word board that cannot wait.
+fn one_kick_off_by_two(board: &WordBoard, reader: &mut WordReaderPass) -> Option<KickedOff>
     requires { reader.old.board ≡ board.now }
 {
     let (mut first, accepted) = kicked_off(board, reader)?;
     let (mut second, refused) = kicked_off(board, reader)?;
     board.meet_now(&mut first, &mut second);
     let own = board.read_own_now(&mut second);
-    Some(([accepted, refused], [own, board.read_now(reader)]))
+    let is_same = board.read_now(reader) == own;
+    let word = own.board.words()[2];
+    Some(([accepted, refused], own.version, word, is_same))
 }
 
 /// If two reporters enter one kick-off by calls that cannot wait, the second is refused as stale, and it and a reader read the same board
@@ -430,13 +457,8 @@ fn one_kick_off_by_two(
 #[test]
 fn calls_that_cannot_wait(rt: HostRuntime) -> Result<(), Fail> {
     let (board, mut reader) = WordBoard::open(&rt, rt.alloc())?;
-    let (answers, [own, read]) = one_kick_off_by_two(&board, &mut reader).ok_or("no number")?;
-    let wanted = [Ok(Accepted { number: 1 }), Err(Refusal::Stale { found: 1 })];
-    assert_eq!(rt; answers, wanted);
-    assert_eq!(rt;
-        (own.version, own.board.words()[2]),
-        (1, 0x2001000000001001)
-    );
-    assert_eq!(rt; read, own);
+    let kicked_off = one_kick_off_by_two(&board, &mut reader);
+    let replies = [Ok(Accepted { number: 1 }), Err(Refusal::Stale { found: 1 })];
+    assert_eq!(rt; kicked_off, Some((replies, 1, 0x2001000000001001, true)));
     Ok(())
 }

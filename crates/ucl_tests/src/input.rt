@@ -50,10 +50,9 @@ impl io::Read for Endless {
 /// A script and a sheet that never end are refused as too long.
 #[test]
 fn reader_that_never_ends(rt: HostRuntime) {
-    let night = read_night(rt.alloc(), &mut FromRead::new(Endless));
-    assert_eq!(rt; night.err(), Some(InputFault::TooLong));
-    let sheet = read_words(rt.alloc(), &mut FromRead::new(Endless));
-    assert_eq!(rt; sheet.err(), Some(InputFault::TooLong));
+    let night = read_night(rt.alloc(), &mut FromRead::new(Endless)).err();
+    let sheet = read_words(rt.alloc(), &mut FromRead::new(Endless)).err();
+    assert_eq!(rt; [night, sheet], [Some(InputFault::TooLong); 2]);
 }
 
 /// Reads a text as a script.
@@ -96,56 +95,98 @@ static SCRIPTS: [(&[u8], &[u8], Result<usize, InputFault>); 17] = [
     (CLUBS, b"club,5,Echo,1", Err(BadRow { row: 5 })),
 ];
 
+/// How many events a script in two parts has, or why it is refused.
+fn events_in(
+    alloc: Global,
+    front: &[u8],
+    rest: &[u8],
+) -> Result<Result<usize, InputFault>, AllocError> {
+    let text = joined(alloc, &[front, rest])?;
+    Ok(night_of(alloc, &text).map(|night| night.events.len()))
+}
+
 /// Each listed script is read with the listed number of events, or refused with the listed fault.
 #[test]
 fn scripts(rt: HostRuntime) -> Result<(), Fail> {
     for &(front, rest, events) in SCRIPTS.as_slice() {
-        let text = joined(rt.alloc(), &[front, rest])?;
-        let read = night_of(rt.alloc(), &text).map(|night| night.events.len());
+        let read = events_in(rt.alloc(), front, rest)?;
         assert_eq!(rt; read, events);
     }
     Ok(())
+}
+
+/// Why a text is refused as a script, if not for a bad row.
+fn other_fault(alloc: Global, text: &[u8]) -> Option<InputFault> {
+    match night_of(alloc, text) {
+        Ok(_) | Err(BadRow { .. }) => None,
+        Err(fault) => Some(fault),
+    }
+}
+
+/// After how many bytes a script is first cut off so that it is refused for anything but a bad row, and why.
+fn first_wrong_cut(alloc: Global, script: &[u8]) -> Option<(usize, InputFault)> {
+    for end in 0..script.len() {
+        if let Some(fault) = other_fault(alloc, &script[..end]) {
+            return Some((end, fault));
+        }
+    }
+    None
+}
+
+/// The coefficient of club 4 in a script that is cut off within that number.
+fn cut_coefficient(alloc: Global) -> Option<u32> {
+    let night = night_of(alloc, CLUBS.get(..75)?).ok()?;
+    Some(night.roster.coefficient(4))
 }
 
 /// A script that is cut off after any number of its bytes is read, or refused for a bad row.
 #[test]
 fn every_beginning_of_a_script(rt: HostRuntime) -> Result<(), Fail> {
     let text = joined(rt.alloc(), &[CLUBS, HEAD_TO_HEAD])?;
-    for end in 0..text.len() {
-        match night_of(rt.alloc(), &text[..end]) {
-            Ok(night) if end == 75 => assert_eq!(rt; night.roster.coefficient(4), 815),
-            Ok(_) | Err(BadRow { .. }) => {}
-            Err(fault) => panic!(rt; "cut after {end}: {fault}"),
-        }
-    }
+    assert_eq!(rt; first_wrong_cut(rt.alloc(), &text), None);
+    assert_eq!(rt; cut_coefficient(rt.alloc()), Some(815));
     Ok(())
 }
+
+/// The script of four clubs, the first with this name, that ends with these rows from row 4 on.
+fn with_name(alloc: Global, name: &[u8], rows: &[u8]) -> Result<Vec<u8>, AllocError> {
+    let others = b",60000\nclub,2,Bravo,95000\nclub,3,Charlie,60000\n";
+    joined(alloc, &[b"club,1,", name, others, rows])
+}
+
+/// Why a script with this name in row 1 and these rows from row 4 on is refused.
+fn fault_with_name(
+    alloc: Global,
+    name: &[u8],
+    rows: &[u8],
+) -> Result<Option<InputFault>, AllocError> {
+    Ok(night_of(alloc, &with_name(alloc, name, rows)?).err())
+}
+
+/// Whether a club has this name if its row has it in quotes.
+fn is_quoted_name(alloc: Global, quoted: &[u8], name: &[u8]) -> Result<bool, Fail> {
+    let script = with_name(alloc, quoted, b"club,4,Delta,81500")?;
+    Ok(night_of(alloc, &script)?.roster.name(1) == name)
+}
+
+/// Rows from row 4 on, and why a script with a bad name in row 1 is refused that ends with them.
+static ROWS_AFTER_A_BAD_NAME: [(&[u8], InputFault); 3] = [
+    (b"club,4,Delta,81500\n1,1,0,kick", BadRoster { slot: 1 }),
+    (b"club,4,Delta,81500\n", BadRoster { slot: 1 }),
+    (b"club,4,Delta,\n", BadRow { row: 4 }),
+];
 
 /// A first club's name that no roster takes is told after row 4 is found good and before row 5 is read; a quoted name may have a comma.
 #[test]
 fn names(rt: HostRuntime) -> Result<(), Fail> {
     let alloc = rt.alloc();
-    let others = b",60000\nclub,2,Bravo,95000\nclub,3,Charlie,60000\n".as_slice();
     for name in [b"M\xc3\xa1laga".as_slice(), b"\xff", b"\"Al\npha\""] {
-        for (row, wanted) in [
-            (
-                b"club,4,Delta,81500\n1,1,0,kick".as_slice(),
-                BadRoster { slot: 1 },
-            ),
-            (b"club,4,Delta,81500\n", BadRoster { slot: 1 }),
-            (b"club,4,Delta,\n", BadRow { row: 4 }),
-        ] {
-            let text = joined(alloc, &[b"club,1,", name, others, row])?;
-            assert_eq!(rt; night_of(alloc, &text).err(), Some(wanted));
+        for &(rows, wanted) in ROWS_AFTER_A_BAD_NAME.as_slice() {
+            let fault = fault_with_name(alloc, name, rows)?;
+            assert_eq!(rt; fault, Some(wanted));
         }
     }
-    let quoted = [
-        b"club,1,\"Al,pha\"".as_slice(),
-        others,
-        b"club,4,Delta,81500",
-    ];
-    let night = night_of(alloc, &joined(alloc, &quoted)?)?;
-    assert!(rt; night.roster.name(1) == b"Al,pha".as_slice());
+    assert!(rt; is_quoted_name(alloc, b"\"Al,pha\"", b"Al,pha")?);
     Ok(())
 }
 
@@ -214,20 +255,39 @@ fn sheet_text(alloc: Global, words: &[&str; 5], last: &str) -> Result<Vec<u8>, F
     Ok(joined(alloc, &[CLUBS, rows.as_bytes(), last.as_bytes()])?)
 }
 
+/// The board of the stored run.
+fn stored_board() -> Result<Board, Fail> {
+    let mut words = [0x2000000000000000; 12];
+    (words[0], words[1]) = (0x2001080000002006, 0x2002000000001001);
+    Ok(Board::of_words(&words)?)
+}
+
+/// The board of a sheet with these words, or why it is refused.
+fn board_or_fault(
+    alloc: Global,
+    words: &[&str; 5],
+    last: &str,
+) -> Result<Result<Board, InputFault>, Fail> {
+    let text = sheet_text(alloc, words, last)?;
+    Ok(sheet_of(alloc, &text).map(|sheet| sheet.board))
+}
+
+/// Why the sheet of the club rows and this one row is refused.
+fn fault_with_row(alloc: Global, row: &[u8]) -> Result<Option<InputFault>, AllocError> {
+    let text = joined(alloc, &[CLUBS, row])?;
+    Ok(sheet_of(alloc, &text).err())
+}
+
 /// Each listed sheet, of words of either layout, is read as the same board, or refused with the listed fault.
 #[test]
 fn sheets(rt: HostRuntime) -> Result<(), Fail> {
     let alloc = rt.alloc();
-    let mut words = [0x2000000000000000; 12];
-    (words[0], words[1]) = (0x2001080000002006, 0x2002000000001001);
-    let stored = Board::of_words(&words)?;
+    let stored = stored_board()?;
     for &(words, last, fault) in SHEETS.as_slice() {
-        match sheet_of(alloc, &sheet_text(alloc, &words, last)?) {
-            Ok(sheet) => assert_eq!(rt; (sheet.board, None), (stored, fault)),
-            Err(found) => assert_eq!(rt; Some(found), fault),
-        }
+        let read = board_or_fault(alloc, &words, last)?;
+        assert_eq!(rt; read, fault.map_or(Ok(stored), Err));
     }
-    let other = joined(alloc, &[CLUBS, b"word,2,2000000000000000,"])?;
-    assert_eq!(rt; sheet_of(alloc, &other).err(), Some(BadRow { row: 5 }));
+    let fault = fault_with_row(alloc, b"word,2,2000000000000000,")?;
+    assert_eq!(rt; fault, Some(BadRow { row: 5 }));
     Ok(())
 }

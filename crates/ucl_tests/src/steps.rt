@@ -1,7 +1,7 @@
 //! Worked lists of steps.
 
 use crate::order::sample_roster;
-use std::alloc::AllocError;
+use std::alloc::{AllocError, Global};
 use std::test::Fail;
 use ucl_board::{Board, Reading};
 use ucl_order::Profile::Uefa;
@@ -279,6 +279,15 @@ fn play(steps: &mut Vec<Step>, turn: Turn) -> Result<(), Fail> {
     Ok(())
 }
 
+/// The steps of some turns.
+fn steps_of(alloc: Global, turns: &[Turn]) -> Result<Vec<Step>, Fail> {
+    let mut steps = Vec::new(alloc);
+    for turn in turns {
+        play(&mut steps, *turn)?;
+    }
+    Ok(steps)
+}
+
 /// The reply of a call for which a listed answer stands; a copied board has these words.
 fn reply(answer: Answer, words: &[u64; 12]) -> Option<Reply> {
     match answer {
@@ -310,51 +319,65 @@ const TWO_REPORTERS: Cast = Cast {
     readers: 1,
 };
 
+/// How many events are accepted among some outcomes.
+fn accepted_in(outcomes: &[Outcome]) -> usize {
+    outcomes
+        .iter()
+        .filter(|(_, _, answer, _)| matches!(answer, Number(_)))
+        .count()
+}
+
+/// The words of a board whose first three matches have these, and on which the others have not begun.
+fn words_with([first, second, third]: [u64; 3]) -> [u64; 12] {
+    let mut words = [FRESH; 12];
+    (words[0], words[1], words[2]) = (first, second, third);
+    words
+}
+
+/// What a list of steps of two reporters and a reader leads to: the numbers of its steps, calls and events, the words that it leaves, and
+/// the first call whose outcome is not the listed one.
+type Led = ([usize; 3], [u64; 12], Option<usize>);
+
+/// What these steps lead to, beside these outcomes.
+fn led_to(alloc: Global, steps: &[Step], outcomes: &[Outcome]) -> Result<Led, StepFault> {
+    let trace = run_steps(alloc, &TWO_REPORTERS, steps)?;
+    let lengths = [steps.len(), trace.calls.len(), trace.history.len()];
+    Ok((lengths, trace.words, first_other(&trace, outcomes)))
+}
+
 /// Each worked list of steps leaves the listed words, its calls have the listed outcomes, and the history has the accepted events.
 #[test]
 fn worked_lists(rt: HostRuntime) -> Result<(), Fail> {
     for &(name, turns, count, begun, outcomes) in WORKED.as_slice() {
-        let mut steps = Vec::new(rt.alloc());
-        for turn in turns {
-            play(&mut steps, *turn)?;
-        }
-        let trace = run_steps(rt.alloc(), &TWO_REPORTERS, &steps)?;
-        let [first, second, third] = begun;
-        let mut words = [FRESH; 12];
-        (words[0], words[1], words[2]) = (first, second, third);
-        assert_eq!(rt; (steps.len(), trace.words), (count, words), "{name}");
-        assert_eq!(rt; trace.calls.len(), outcomes.len(), "{name}");
-        assert_eq!(rt; first_other(&trace, outcomes), None, "{name}");
-        let accepted = outcomes
-            .iter()
-            .filter(|(_, _, answer, _)| matches!(answer, Number(_)));
-        assert_eq!(rt; trace.history.len(), accepted.count(), "{name}");
+        let steps = steps_of(rt.alloc(), turns)?;
+        let led = led_to(rt.alloc(), &steps, outcomes)?;
+        let lengths = [count, outcomes.len(), accepted_in(outcomes)];
+        assert_eq!(rt; led, (lengths, words_with(begun), None), "{name}");
     }
     Ok(())
+}
+
+/// The steps in which reporter 1 looks and never goes on, while reporter 2 enters an event, and it and the reader read again and again.
+fn steps_past_a_stopped_reporter(alloc: Global) -> Result<Vec<Step>, Fail> {
+    let mut steps = steps_of(alloc, &[Looks(1, KICK_OFF), Enters(2, KICK_OFF), Reads(0)])?;
+    for _ in 0..100 {
+        read(&mut steps, caller(2))?;
+        read(&mut steps, READER)?;
+    }
+    Ok(steps)
 }
 
 /// A reporter that has loaded the word of its match, and never goes on, stops no other caller.
 #[test]
 fn stopped_reporter(rt: HostRuntime) -> Result<(), Fail> {
-    let mut steps = Vec::new(rt.alloc());
-    play(&mut steps, Looks(1, KICK_OFF))?;
-    play(&mut steps, Enters(2, KICK_OFF))?;
-    read(&mut steps, READER)?;
-    for _ in 0..100 {
-        read(&mut steps, caller(2))?;
-        read(&mut steps, READER)?;
-    }
-    let trace = run_steps(rt.alloc(), &TWO_REPORTERS, &steps)?;
+    let steps = steps_past_a_stopped_reporter(rt.alloc())?;
     let outcomes = [
         (0, None, Nothing, None),
         (0, Some(0), Number(1), Some(1)),
         (1, Some(1), Copied(1), Some(1)),
     ];
-    assert_eq!(rt;
-        (trace.words[0], trace.calls.len()),
-        (0x2002000000001001, 203)
-    );
-    assert_eq!(rt; first_other(&trace, &outcomes), None);
+    let ([_, calls, _], words, other) = led_to(rt.alloc(), &steps, &outcomes)?;
+    assert_eq!(rt; (words[0], calls, other), (0x2002000000001001, 203, None));
     Ok(())
 }
 
@@ -367,19 +390,21 @@ GROUP A v00002 IN PLAY 2
 4   Charlie               1  0  1  0   0   0   +0   1
 ";
 
+/// The copy that the first call of the first worked list makes of the board; nothing if it makes none.
+fn first_reading(alloc: Global) -> Result<Option<Reading>, Fail> {
+    let steps = steps_of(alloc, WORKED[0].1)?;
+    let trace = run_steps(alloc, &TWO_REPORTERS, &steps)?;
+    match trace.calls.first().and_then(|call| call.reply) {
+        Some(Reply::Copied(reading)) => Ok(Some(reading)),
+        _ => Ok(None),
+    }
+}
+
 /// The screen of a reading that had to try again, since two events came during its first collect, shows both events.
 #[test]
 fn screen_of_a_reading(rt: HostRuntime) -> Result<(), Fail> {
     let alloc = rt.alloc();
-    let mut steps = Vec::new(alloc);
-    for turn in WORKED[0].1 {
-        play(&mut steps, *turn)?;
-    }
-    let trace = run_steps(alloc, &TWO_REPORTERS, &steps)?;
-    let reply = trace.calls.first().and_then(|call| call.reply);
-    let Some(Reply::Copied(reading)) = reply else {
-        return Err("no reading".into());
-    };
+    let reading = first_reading(alloc)?.ok_or("no reading")?;
     let text = screen(alloc, &reading.board, &sample_roster(alloc)?, b'A', Uefa)?;
     assert_eq!(rt; text.as_str(), BOTH_KICKED_OFF);
     Ok(())
@@ -390,54 +415,90 @@ const ONE_REPORTER: Cast = Cast {
     readers: 1,
 };
 
+/// The kind of the event with this expected number, of those with which a match takes as many as it can: a kick-off, a home goal and its
+/// disallowing in turn, and full time.
+fn kind_at(expected: u16) -> Kind {
+    match expected {
+        0 => KickOff,
+        4094 => FullTime,
+        _ if expected % 2 == 1 => Goal(Home),
+        _ => Disallow(Home),
+    }
+}
+
+/// Appends the steps of a try to read, between whose two collects reporter 1 enters an event.
+fn fail_a_try(steps: &mut Vec<Step>, (game, expected, kind): Event) -> Result<(), Fail> {
+    repeat(steps, Step::First(READER), 12)?;
+    enter(steps, caller(1), (game, expected, kind))?;
+    Ok(repeat(steps, Step::Second(READER), game)?)
+}
+
+/// The steps of a reading of which a try fails for each event that the board can take, and the last one does not.
+fn longest_reading(alloc: Global) -> Result<Vec<Step>, Fail> {
+    let mut steps = steps_of(alloc, &[Opens])?;
+    for game in 1..=12 {
+        for expected in 0..4095 {
+            fail_a_try(&mut steps, (game, expected, kind_at(expected)))?;
+        }
+    }
+    for turn in [First(12), Second(12), Ends(0)] {
+        play(&mut steps, turn)?;
+    }
+    Ok(steps)
+}
+
+/// The number of steps of the longest reading, the words and the number of events that they leave, and its reply.
+fn longest_reading_led_to(alloc: Global) -> Result<(usize, [u64; 12], usize, Option<Reply>), Fail> {
+    let steps = longest_reading(alloc)?;
+    let trace = run_steps(alloc, &ONE_REPORTER, &steps)?;
+    let reading = trace.calls.first().ok_or("call")?.reply;
+    Ok((steps.len(), trace.words, trace.history.len(), reading))
+}
+
 /// A reading ends after the most tries that it can need: each event that a board can take, one after the other, makes one try fail.
 #[test]
 fn bound_of_tries(rt: HostRuntime) -> Result<(), Fail> {
-    let mut steps = Vec::new(rt.alloc());
-    steps.push(Step::Begin(READER, Call::Reading))?;
-    for game in 1..=12 {
-        for expected in 0..4095 {
-            let kind = match expected {
-                0 => KickOff,
-                4094 => FullTime,
-                _ if expected % 2 == 1 => Goal(Home),
-                _ => Disallow(Home),
-            };
-            repeat(&mut steps, Step::First(READER), 12)?;
-            enter(&mut steps, caller(1), (game, expected, kind))?;
-            repeat(&mut steps, Step::Second(READER), game)?;
-        }
-    }
-    repeat(&mut steps, Step::First(READER), 12)?;
-    repeat(&mut steps, Step::Second(READER), 12)?;
-    steps.push(Step::End(READER))?;
-    assert_eq!(rt; steps.len(), 1_105_676);
-    let trace = run_steps(rt.alloc(), &ONE_REPORTER, &steps)?;
+    let led = longest_reading_led_to(rt.alloc())?;
     let words = [0x2001000000006fff; 12];
-    assert_eq!(rt; (trace.words, trace.history.len()), (words, 49_140));
-    let reading = trace.calls.first().ok_or("call")?.reply;
-    assert_eq!(rt; reading, reply(Copied(49_140), &words));
+    let reading = reply(Copied(49_140), &words);
+    assert_eq!(rt; led, (1_105_676, words, 49_140, reading));
     Ok(())
+}
+
+/// The place of the step of a list that is not enabled.
+fn place_not_enabled(alloc: Global, steps: &[Step]) -> Option<usize> {
+    match run_steps(alloc, &ONE_REPORTER, steps) {
+        Err(StepFault::NotEnabled { at }) => Some(at),
+        _ => None,
+    }
+}
+
+/// The numbers of events and of calls of the list without a step, and the words that it leaves.
+fn left_by_no_step(alloc: Global) -> Result<(usize, usize, [u64; 12]), StepFault> {
+    let trace = run_steps(alloc, &ONE_REPORTER, &[])?;
+    Ok((trace.history.len(), trace.calls.len(), trace.words))
+}
+
+/// The places at which three lists are refused: of an exchange by a reader, an event that a reader begins, and a reader who is not there.
+fn places_not_enabled(alloc: Global) -> Result<[Option<usize>; 3], Fail> {
+    let reading = Step::Begin(READER, Call::Reading);
+    let event = Step::Begin(READER, event_of(KICK_OFF)?);
+    let stranger = Step::Begin(Caller::Reader(2), Call::Reading);
+    Ok([
+        place_not_enabled(alloc, &[reading, Step::Swap(READER)]),
+        place_not_enabled(alloc, &[event]),
+        place_not_enabled(alloc, &[stranger]),
+    ])
 }
 
 /// A list with a step that is not enabled, such as an exchange by a reader, is refused with the place of that step.
 #[test]
 fn steps_not_enabled(rt: HostRuntime) -> Result<(), Fail> {
-    let reading = Step::Begin(READER, Call::Reading);
-    let event = Step::Begin(READER, event_of(KICK_OFF)?);
-    let stranger = Step::Begin(Caller::Reader(2), Call::Reading);
-    for (steps, at) in [
-        ([reading, Step::Swap(READER)].as_slice(), 1),
-        (&[event], 0),
-        (&[stranger], 0),
-    ] {
-        let fault = run_steps(rt.alloc(), &ONE_REPORTER, steps).err();
-        assert_eq!(rt; fault, Some(StepFault::NotEnabled { at }));
-    }
+    let places = places_not_enabled(rt.alloc())?;
+    let left = left_by_no_step(rt.alloc())?;
+    let wanted = ([Some(1), Some(0), Some(0)], (0, 0, [FRESH; 12]));
+    assert_eq!(rt; (places, left), wanted);
     let text = StepFault::NotEnabled { at: 1 }.to_string(rt.alloc())?;
     assert_eq!(rt; text.as_str(), "step 1 is not enabled: 40");
-    let trace = run_steps(rt.alloc(), &ONE_REPORTER, &[])?;
-    let left = (trace.history.len(), trace.calls.len(), trace.words);
-    assert_eq!(rt; left, (0, 0, [FRESH; 12]));
     Ok(())
 }

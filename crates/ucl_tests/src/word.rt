@@ -178,18 +178,24 @@ static BOARDS: [(u64, u64, u64, Result<(u64, u64), BadWordAt>); 6] = [
     (FRESH, 0, 0x0000400000001402, Ok((FRESH, GOAL))),
 ];
 
+/// The words of twelve matches: one for all but matches 4 and 9, and the words of these two.
+fn words_with(others: u64, fourth: u64, ninth: u64) -> [u64; 12] {
+    let mut words = [others; 12];
+    (words[3], words[8]) = (fourth, ninth);
+    words
+}
+
+/// The words of the board of these words, or the first bad one.
+fn words_read(words: &[u64; 12]) -> Result<[u64; 12], BadWordAt> {
+    Ok(Board::of_words(words)?.words())
+}
+
 /// A board is made from words of both layouts, and gives words of the present one. If words are bad, the first is told.
 #[test]
 fn boards_of_words(rt: HostRuntime) {
     for &(others, fourth, ninth, told) in BOARDS.as_slice() {
-        let mut words = [others; 12];
-        (words[3], words[8]) = (fourth, ninth);
-        let read = Board::of_words(&words).map(|board| board.words());
-        let wanted = told.map(|(fourth, ninth)| {
-            let mut words = [FRESH; 12];
-            (words[3], words[8]) = (fourth, ninth);
-            words
-        });
+        let read = words_read(&words_with(others, fourth, ninth));
+        let wanted = told.map(|(fourth, ninth)| words_with(FRESH, fourth, ninth));
         assert_eq!(rt; read, wanted, "at {fourth:x} and {ninth:x}");
     }
     assert_eq!(rt; Board::of_words(&[0; 12]), Ok(Board::fresh()));

@@ -2,6 +2,3 @@ use Rattle.ucl_tests.proofs.boards.first_late.Given as goal
 
 abbrev pub invariant-loop-number : goal.invariant-loop-number
 invariant-loop-number g l = g.B.LiveBoard.is_reporter l.fn.board l.pass
-
-abbrev pub invariant-loop-code : goal.invariant-loop-code
-invariant-loop-code g l = g.B.LiveBoard.is_reporter l.fn.board l.pass

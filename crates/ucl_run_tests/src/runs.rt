@@ -106,6 +106,30 @@ pub fn has_stopped((answer, out): &Ran, text: &str, room: usize) -> bool {
         && Some(out.as_slice()) == text.as_bytes().get(..room)
 }
 
+/// The first number of bytes after which the output of a run can stop, failing or not, and the run has not written just these bytes.
+fn first_wrong_stop(alloc: Global, run: Run, input: &str, output: &str) -> Option<(usize, bool)> {
+    for room in 0..output.len() {
+        for fails in [true, false] {
+            let ran = ran(alloc, run, input, usize::MAX, (room, fails));
+            if !has_stopped(&ran, output, room) {
+                return Some((room, fails));
+            }
+        }
+    }
+    None
+}
+
+/// The first of some numbers of bytes after which the input of a run can fail, and the run answers otherwise, or writes anything.
+fn first_wrong_failure(alloc: Global, run: Run, input: &str) -> Option<usize> {
+    for bytes in [0, 1, 100, input.len()] {
+        let (answer, out) = ran(alloc, run, input, bytes, (usize::MAX, true));
+        if answer != Err(Input(ReadFailed { bytes })) || !out.is_empty() {
+            return Some(bytes);
+        }
+    }
+    None
+}
+
 /// If its output fails or takes no byte after any number of bytes, a run has written just these; if its input fails, it has written
 /// nothing. A device that has failed is not called again.
 #[test]
@@ -118,18 +142,11 @@ fn failing_devices(rt: HostRuntime) -> Result<(), Fail> {
         (Run::Feed, script.as_str(), fed.as_str()),
         (Run::Show, sheet.as_str(), STORED_SCREEN),
     ] {
-        assert_eq!(rt; written(alloc, run, input)?.as_str(), output);
-        for room in 0..output.len() {
-            for fails in [true, false] {
-                let ran = ran(alloc, run, input, usize::MAX, (room, fails));
-                assert!(rt; has_stopped(&ran, output, room), "room for {room}");
-            }
-        }
-        for bytes in [0, 1, 100, input.len()] {
-            let (answer, out) = ran(alloc, run, input, bytes, (usize::MAX, true));
-            assert_eq!(rt; answer, Err(Input(ReadFailed { bytes })));
-            assert!(rt; out.is_empty());
-        }
+        let written = written(alloc, run, input)?;
+        assert_eq!(rt; written.as_str(), output);
+        let stop = first_wrong_stop(alloc, run, input, output);
+        let failure = first_wrong_failure(alloc, run, input);
+        assert_eq!(rt; (stop, failure), (None, None));
     }
     Ok(())
 }
@@ -179,22 +196,38 @@ static SCRIPTS: [(&str, &str, usize, [&str; 3], &str); 4] = [
     ),
 ];
 
+/// Whether a text has these lines, and tells that so many events were accepted.
+fn has_lines(text: &str, accepted: usize, lines: &[&str]) -> bool {
+    for line in lines {
+        if !text.contains(*line) {
+            return false;
+        }
+    }
+    text.matches(" ok ").count() == accepted
+}
+
+/// What `feed` writes for the rows of the clubs and rows in two parts.
+fn fed(alloc: Global, script: &str, more: &str) -> Result<String, Fail> {
+    let text = joined(alloc, &[CLUBS, script, more])?;
+    written(alloc, Run::Feed, text.as_str())
+}
+
+/// What `show` writes for the rows of the clubs and the word lines of a text.
+fn shown_words(alloc: Global, text: &str) -> Result<String, Fail> {
+    let words = words_in(text).ok_or("no words")?;
+    let sheet = joined(alloc, &[CLUBS, words])?;
+    written(alloc, Run::Show, sheet.as_str())
+}
+
 /// The word lines that `feed` writes for a script are, after its club rows, a sheet for which `show` writes the listed screen.
 #[test]
 fn scripts_are_fed_and_shown(rt: HostRuntime) -> Result<(), Fail> {
     let alloc = rt.alloc();
     for &(script, more, accepted, lines, screen) in SCRIPTS.as_slice() {
-        let fed = written(
-            alloc,
-            Run::Feed,
-            joined(alloc, &[CLUBS, script, more])?.as_str(),
-        )?;
-        assert_eq!(rt; fed.as_str().matches(" ok ").count(), accepted);
-        for line in lines {
-            assert!(rt; fed.contains(line), "{line}");
-        }
-        let words = words_in(fed.as_str()).ok_or("no words")?;
-        let shown = written(alloc, Run::Show, joined(alloc, &[CLUBS, words])?.as_str())?;
+        let fed = fed(alloc, script, more)?;
+        let is_right = has_lines(fed.as_str(), accepted, &lines);
+        assert!(rt; is_right, "{}", fed.as_str());
+        let shown = shown_words(alloc, fed.as_str())?;
         assert!(rt; shown.as_str().ends_with(screen), "{}", shown.as_str());
     }
     Ok(())

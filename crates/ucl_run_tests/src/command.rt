@@ -1,5 +1,6 @@
 //! What words ask `ucl_night` for.
 
+use std::alloc::{AllocError, Global};
 use std::test::Fail;
 use ucl_command::{Line, LineFault, line_of};
 use ucl_order::Profile::{AwayInTie, Uefa};
@@ -51,19 +52,29 @@ static LINES: [(&str, Option<Line>); 10] = [
     ("ucl_night", None),
 ];
 
+/// The words of a line.
+fn words_of(alloc: Global, line: &str) -> Result<Vec<String>, AllocError> {
+    let mut words = Vec::new(alloc);
+    for word in line.split_whitespace() {
+        words.push(String::from_str(alloc, word)?)?;
+    }
+    Ok(words)
+}
+
+/// What a line of words asks for; nothing if it is refused.
+fn asked(alloc: Global, line: &str) -> Result<Option<Line>, Fail> {
+    match line_of(alloc, &words_of(alloc, line)?) {
+        Ok(line) => Ok(Some(line)),
+        Err(LineFault::Refused(_)) => Ok(None),
+        Err(_) => Err("neither asked for nor refused".into()),
+    }
+}
+
 /// Each listed command line of `ucl_night` is read as listed, or refused.
 #[test]
 fn lines(rt: HostRuntime) -> Result<(), Fail> {
     for &(line, wanted) in LINES.as_slice() {
-        let mut words = Vec::new(rt.alloc());
-        for word in line.split_whitespace() {
-            words.push(String::from_str(rt.alloc(), word)?)?;
-        }
-        let asked = match line_of(rt.alloc(), &words) {
-            Ok(line) => Some(line),
-            Err(LineFault::Refused(_)) => None,
-            Err(_) => return Err("neither asked for nor refused".into()),
-        };
+        let asked = asked(rt.alloc(), line)?;
         assert!(rt; asked == wanted, "{line}");
     }
     Ok(())

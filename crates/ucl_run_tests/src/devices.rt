@@ -111,55 +111,107 @@ impl io::Write for Counted<'_> {
     }
 }
 
+/// Five turns, each of a call that could move a byte and of one that could not: how many bytes were moved by each.
+type Turns = [[Option<usize>; 2]; 5];
+
+/// Turns of which those before the one with the number `failing` move what they can, and the others fail.
+fn turns_until(failing: usize) -> Turns {
+    let mut turns = [[None; 2]; 5];
+    for (number, turn) in (1..).zip(&mut turns) {
+        if number < failing {
+            *turn = [Some(1), Some(0)];
+        }
+    }
+    turns
+}
+
+/// The turns of a source, and the calls of its reader, of which that with this number fails.
+fn taken(failing: usize) -> (Turns, usize) {
+    let (mut calls, mut turns) = (0, [[None; 2]; 5]);
+    let mut source = FromRead::new(Counted {
+        calls: &mut calls,
+        failing,
+    });
+    for turn in &mut turns {
+        *turn = [source.take(&mut [0; 4]), source.take(&mut [])];
+    }
+    drop(source);
+    (turns, calls)
+}
+
+/// The turns of a sink, and the calls of its writer, of which that with this number fails.
+fn given(failing: usize) -> (Turns, usize) {
+    let (mut calls, mut turns) = (0, [[None; 2]; 5]);
+    let mut sink = ToWrite::new(Counted {
+        calls: &mut calls,
+        failing,
+    });
+    for turn in &mut turns {
+        *turn = [sink.give(b"text"), sink.give(b"")];
+    }
+    drop(sink);
+    (turns, calls)
+}
+
+/// What `give_all` answers for an empty text and then for one of four bytes, and the calls of the writer, of which that with this number
+/// fails.
+fn all_given(failing: usize) -> ([Result<(), usize>; 2], usize) {
+    let mut calls = 0;
+    let mut sink = ToWrite::new(Counted {
+        calls: &mut calls,
+        failing,
+    });
+    let answers = [give_all(&mut sink, b""), give_all(&mut sink, b"text")];
+    drop(sink);
+    (answers, calls)
+}
+
 /// A source calls its reader, and a sink its writer, once for each call that could move a byte, and never again after one has failed; nor
 /// does `give_all`, which gives a sink a whole text.
 #[test]
 fn devices_are_called_until_they_fail(rt: HostRuntime) {
     for failing in 1..4 {
-        let (mut reads, mut writes, mut gifts) = (0, 0, 0);
-        let mut source = FromRead::new(Counted {
-            calls: &mut reads,
-            failing,
-        });
-        let mut sink = ToWrite::new(Counted {
-            calls: &mut writes,
-            failing,
-        });
-        let mut other = ToWrite::new(Counted {
-            calls: &mut gifts,
-            failing,
-        });
-        let mut buf = [0; 4];
-        for turn in 1..6 {
-            let moved = (turn < failing).then_some(1);
-            assert_eq!(rt; (source.take(&mut buf), sink.give(b"text")), (moved, moved));
-            let none = moved.map(|_| 0);
-            assert_eq!(rt; (source.take(&mut []), sink.give(b"")), (none, none));
-        }
-        assert_eq!(rt; give_all(&mut other, b""), Ok(()));
-        assert_eq!(rt; give_all(&mut other, b"text"), Err(failing - 1));
-        drop(source);
-        drop(sink);
-        drop(other);
-        assert_eq!(rt; (reads, writes, gifts), (failing, failing, failing));
+        let turns = turns_until(failing);
+        assert_eq!(rt; [taken(failing), given(failing)], [(turns, failing); 2]);
+        let answers = [Ok(()), Err(failing - 1)];
+        assert_eq!(rt; all_given(failing), (answers, failing));
     }
+}
+
+/// The first length from 1 to 16,384 of a slice into which a source takes no byte.
+fn first_not_taken() -> Option<usize> {
+    let mut calls = 0;
+    let mut source = FromRead::new(Counted {
+        calls: &mut calls,
+        failing: 0,
+    });
+    let mut buf = [0; 16_384];
+    for length in 1..16_385 {
+        if source.take(&mut buf[..length]) != Some(1) {
+            return Some(length);
+        }
+    }
+    None
+}
+
+/// The first length from 1 to 16,384 of a slice of which a sink gives no byte.
+fn first_not_given() -> Option<usize> {
+    let mut calls = 0;
+    let mut sink = ToWrite::new(Counted {
+        calls: &mut calls,
+        failing: 0,
+    });
+    let text = [b'a'; 16_384];
+    for length in 1..16_385 {
+        if sink.give(&text[..length]) != Some(1) {
+            return Some(length);
+        }
+    }
+    None
 }
 
 /// A source and a sink over devices that never fail move a byte for a slice of each length from 1 to 16,384.
 #[test]
 fn devices_take_slices_of_any_length(rt: HostRuntime) {
-    let (mut reads, mut writes) = (0, 0);
-    let mut source = FromRead::new(Counted {
-        calls: &mut reads,
-        failing: 0,
-    });
-    let mut sink = ToWrite::new(Counted {
-        calls: &mut writes,
-        failing: 0,
-    });
-    let (mut buf, text) = ([0; 16_384], [b'a'; 16_384]);
-    for length in 1..16_385 {
-        let moved = (source.take(&mut buf[..length]), sink.give(&text[..length]));
-        assert_eq!(rt; moved, (Some(1), Some(1)), "{length}");
-    }
+    assert_eq!(rt; [first_not_taken(), first_not_given()], [None; 2]);
 }

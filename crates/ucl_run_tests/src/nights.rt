@@ -89,6 +89,9 @@ struct Watch {
     is_wrong: AtomicBool,
 }
 
+/// The calls of each reporter and of each reader, the screens of each reader, and whether anything was wrong.
+type Notes = ([[u32; 2]; 3], bool);
+
 impl Watch {
     /// A gate, which the workers of a night call as they go, that holds calls back by this rule and has counted nothing yet.
     fn new(alloc: Global, rule: Rule) -> Result<Watch, Fail> {
@@ -103,8 +106,8 @@ impl Watch {
         })
     }
 
-    /// What the gate has noted: the calls of each reporter and of each reader, the screens of each reader, and whether anything was wrong.
-    fn notes(&self) -> ([[u32; 2]; 3], bool) {
+    /// What the gate has noted.
+    fn notes(&self) -> Notes {
         (
             [
                 counts(&self.reporters),
@@ -162,6 +165,22 @@ impl Gate for Watch {
     }
 }
 
+/// What a gate with this rule notes in a night on the board, in which each reader reads once; and the version on which the night settles.
+fn gated<B: LiveBoard, R: Threads + Wait + Sync>(
+    rt: &R,
+    alloc: Global,
+    board: &B,
+    pass: B::ReaderPass,
+    night: &Night,
+    rule: Rule,
+) -> Result<(Notes, u16), Fail>
+    requires { B.is_reader board.now pass }
+{
+    let gate = Watch::new(alloc, rule)?;
+    let (version, _) = held(rt, alloc, board, pass, night, 1, &gate)?;
+    Ok((gate.notes(), version))
+}
+
 /// On both kinds of boards, and under each rule by which a gate holds calls back, a night settles on all 40 events, and the gate sees each
 /// call and each screen.
 #[test]
@@ -169,18 +188,27 @@ fn gates(rt: HostRuntime) -> Result<(), Fail> {
     let alloc = rt.alloc();
     let night = night_of(alloc, HEAD_TO_HEAD)?;
     for rule in [Rule::FourAtOnce, Rule::ReportersFirst] {
-        let gates = [Watch::new(alloc, rule)?, Watch::new(alloc, rule)?];
         let (board, pass) = CellBoard::open(&rt, alloc)?;
-        let (in_cell, _) = held(&rt, alloc, &board, pass, &night, 1, &gates[0])?;
+        let in_cell = gated(&rt, alloc, &board, pass, &night, rule)?;
         let (board, pass) = WordBoard::open(&rt, alloc)?;
-        let (in_words, _) = held(&rt, alloc, &board, pass, &night, 1, &gates[1])?;
-        assert_eq!(rt; (in_cell, in_words), (40, 40), "{rule:?}");
-        let wanted = ([[19, 21], [1; 2], [1; 2]], false);
-        for gate in &gates {
-            assert_eq!(rt; gate.notes(), wanted, "{rule:?}");
-        }
+        let in_words = gated(&rt, alloc, &board, pass, &night, rule)?;
+        let wanted = (([[19, 21], [1; 2], [1; 2]], false), 40);
+        assert_eq!(rt; [in_cell, in_words], [wanted; 2], "{rule:?}");
     }
     Ok(())
+}
+
+/// The closing screens of two nights, one on each kind of board, with 20 readings by each reader.
+fn closing_screens<R: Threads + Wait + Sync>(
+    rt: &R,
+    alloc: Global,
+    night: &Night,
+) -> Result<[String; 2], Fail> {
+    let (board, pass) = CellBoard::open(rt, alloc)?;
+    let (_, in_cell) = held(rt, alloc, &board, pass, night, 20, &OpenGate)?;
+    let (board, pass) = WordBoard::open(rt, alloc)?;
+    let (_, in_words) = held(rt, alloc, &board, pass, night, 20, &OpenGate)?;
+    Ok([in_cell, in_words])
 }
 
 /// Fifty nights of one script, with 20 readings by each reader, end with the same screen on both kinds of boards.
@@ -189,10 +217,7 @@ fn fifty_nights(rt: HostRuntime) -> Result<(), Fail> {
     let alloc = rt.alloc();
     let night = night_of(alloc, HEAD_TO_HEAD)?;
     for _ in 0..50 {
-        let (board, pass) = CellBoard::open(&rt, alloc)?;
-        let (_, in_cell) = held(&rt, alloc, &board, pass, &night, 20, &OpenGate)?;
-        let (board, pass) = WordBoard::open(&rt, alloc)?;
-        let (_, in_words) = held(&rt, alloc, &board, pass, &night, 20, &OpenGate)?;
+        let [in_cell, in_words] = closing_screens(&rt, alloc, &night)?;
         let wanted = (HEAD_TO_HEAD_SCREEN, HEAD_TO_HEAD_SCREEN);
         assert_eq!(rt; (in_cell.as_str(), in_words.as_str()), wanted);
     }
