@@ -47,6 +47,7 @@ class Record:
     ) -> "Record":
         """Opens a record, reads it, and follows it from then on.
 
+        A last line in which a write was cut off gets its end, unless it is only read.
         With `is_durable` nothing is told of a row before the disk has it, whoever appended it.
         Raises OSError where the file can not be opened, and Over where it is no record, is on a
         share, or has a later row of the group.
