@@ -1,6 +1,6 @@
 -- Each kind of step on the cell keeps the invariant, and tells its pass what it says.
 use Rattle.ucl_pass.proofs.Common.{Err, Ok, ◌≡◌, ◌≢◌, inl, inr, ℕ, ◌+◌, ◌<◌, Bool, true, false, List, ◌∷◌, ◌++◌, length, set, take, nat_eq, [], Option, Some}
-use Rattle.ucl_pass.proofs.Common.{None, if◌then◌else◌, refl, sym, ap, ◌∙◌, subst, arith, true≢false, slice_index, Result, MatchResult, IsSome, some, get_elem?}
+use Rattle.ucl_pass.proofs.Common.{None, refl, sym, ap, ◌∙◌, subst, arith, true≢false, slice_index, Result, IsSome, some, get_elem?}
 use Rattle.ucl_pass.proofs.Common.{Turns, Forks, Merges, EventCall, Entry, IsLegal, followed_by, one_word, View, new_pass, first_pass, left_pass, second_pass}
 use Rattle.ucl_pass.proofs.Common.{note_pass, told_pass, words_after, CellInvariant, IsNextBoard, with_one_more, entry_at, CellStep, LooksOnly, LooksAndShows}
 use Rattle.ucl_pass.proofs.Common.{StoresEvent, StoresReporter, MayStore, Exchanges, Taken, Target, history_of, enlisted_by, number_of, taken_by, IsLegalStep}
@@ -12,6 +12,7 @@ use Rattle.ucl_board.proofs.Logs.{legal_history}
 use Rattle.ucl_live_board.proofs.InvariantIsKept.{takes_step, words_stay, words_entered, words_enlisted, seconds_keep, notes_keep, joins_keep}
 use Rattle.ucl_live_board.proofs.InvariantIsKept.{opens_keep}
 use Rattle.ucl_pass.specs.CellInvariants.{CellOccurs}
+use Rattle.ucl_pass.specs.CellSteps.{Answers, exchanged}
 
 -- the first twelve of the thirteen words of a cell board are its match words
 pub match_words : (h : List Entry) (n : ℕ) → take 12 (words_after h n) ≡ board_of h
@@ -37,7 +38,7 @@ reporter_differs : (h : List Entry) (n : ℕ) → words_after h n ≢ words_afte
 reporter_differs h n same = let e : n ≡ n + 1 = sym (last_word h n) ∙ (ap (λ (l : List ℕ). slice_index l 12) same ∙ last_word h (n + 1)) in omega arith
 
 -- P holds after an exchange if it holds where the words were those that were expected, and where they were others
-by_exchange : (current next : List ℕ) (P : List ℕ → List ℕ → Type 0) (x : List ℕ) → (x ≡ current → P x next) → (x ≢ current → P x x) → P x (if pointwise nat_eq x current then next else x)
+by_exchange : (current next : List ℕ) (P : List ℕ → List ℕ → Type 0) (x : List ℕ) → (x ≡ current → P x next) → (x ≢ current → P x x) → P x (exchanged current next x)
 by_exchange current next P x hit miss = search (arith, pointwise, nat_eq, bytes_decides, true≢false)
 
 -- one pass takes one step, at its seat in a state that satisfies the invariant
@@ -93,7 +94,7 @@ reads seat v acts x views r here = load x views r seat v here acts true
 
 -- the cell allows an exchange of the words before an entry for those after it
 pub adds : (seat : ℕ) (v : View) (e : EventCall) (current next : List ℕ) → IsSome v.share → IsNextBoard (entry_at v e) current next
-    → Turns CellInvariant seat v (λ x. if pointwise nat_eq x current then next else x) (MayStore (StoresEvent e))
+    → Turns CellInvariant seat v (exchanged current next) (MayStore (StoresEvent e))
 adds seat v e current next acts is x views r here =
     by_exchange current next (λ x' y. (w : View) × CellInvariant y (set views seat w) × MayStore (StoresEvent e) v x' y w) x
     (λ same. store x views r seat v here acts next e (subst (λ (ws : List ℕ). IsNextBoard (entry_at v e) ws next) (sym same) is))
@@ -101,7 +102,7 @@ adds seat v e current next acts is x views r here =
 
 -- the cell allows an exchange for the words with one reporter more, for a pass with no number
 pub enlists : (seat : ℕ) (v : View) (current next : List ℕ) → IsSome v.share → number_of v.own ≡ 0 → slice_index current 12 < 255 → next ≡ with_one_more current
-    → Turns CellInvariant seat v (λ x. if pointwise nat_eq x current then next else x) (MayStore StoresReporter)
+    → Turns CellInvariant seat v (exchanged current next) (MayStore StoresReporter)
 enlists seat v current next acts reader room is x views r here =
     by_exchange current next (λ x' y. (w : View) × CellInvariant y (set views seat w) × MayStore StoresReporter v x' y w) x
     (λ same. subst (λ (y : List ℕ). (w : View) × CellInvariant y (set views seat w) × MayStore StoresReporter v x y w) (ap with_one_more same ∙ sym is)
@@ -136,10 +137,6 @@ other_words x current not is = true≢false (sym ((bytes_decides x current).1 is
 missed_by : (Stores : View → List ℕ → List ℕ → View → Type 0) (v w : View) (x : List ℕ) → MayStore Stores v x x w → LooksOnly v x x w
 missed_by Stores v w x (inl t) = t.1
 missed_by Stores v w x (inr t) = absurd (t.0 refl)
-
--- what is known of an exchange, by its answer: it found the words that it expected and left `next`, or it found others and left them
-abbrev pub Answers : (View → List ℕ → List ℕ → View → Type 0) → View → List ℕ → List ℕ → Result (List ℕ) (List ℕ) → View → Type 0
-Answers tells v current next r w = MatchResult r (λ x. (pointwise nat_eq x current ≡ true) × tells v x next w) (λ x. (pointwise nat_eq x current ≡ false) × tells v x x w)
 
 -- an exchange that is to enter an event entered it if it answers Ok, and else stored nothing
 pub add_says : (e : EventCall) (v w : View) (current next : List ℕ) (r : Result (List ℕ) (List ℕ)) → IsNextBoard (entry_at v e) current next → Answers (MayStore (StoresEvent e)) v current next r w

@@ -1,6 +1,7 @@
 -- What each kind of step on a cell board says of the pass that takes it: `before` and `after` are the pass, `found` and `left` all thirteen
 -- words, before and after it.
-use Rattle.std.specs.Prelude.{◌≡◌, ◌≢◌, ◌⊎◌, ℕ, ◌+◌, true, false, List, [], ◌∷◌, Option, Some, None, slice_index, slice_set, Result, MatchResult}
+use Rattle.std.specs.Prelude.{◌≡◌, ◌≢◌, ◌⊎◌, ℕ, ◌+◌, true, false, List, [], ◌∷◌, Option, Some, None, slice_index, slice_set, Result, MatchResult, if◌then◌else◌, nat_eq}
+use lib.Pointwise.{pointwise}
 use Rattle.ucl_word.specs.declared.event.EventCall.{EventCall}
 use Rattle.ucl_word.specs.Counts.{GainsOne}
 use Rattle.ucl_board.specs.declared.entry.Entry.{Entry}
@@ -51,6 +52,16 @@ StoresReporter before found left after = CellStep (Enlists (slice_index found 12
 -- A compare and exchange: lost, it leaves the words as they are and stores nothing; won, it changes them as `Stores` says.
 abbrev pub MayStore : (View → List ℕ → List ℕ → View → Type 0) → View → List ℕ → List ℕ → View → Type 0
 MayStore Stores before found left after = ((found ≡ left) × LooksOnly before found left after) ⊎ ((found ≢ left) × Stores before found left after)
+
+-- The words that a compare and exchange of `current` for `next` leaves where it finds `found`.
+abbrev pub exchanged : List ℕ → List ℕ → List ℕ → List ℕ
+exchanged current next found = if pointwise nat_eq found current then next else found
+
+-- What is known of a compare and exchange of this kind by its answer: it found the words `current` and left `next`, or found others and left them.
+abbrev pub Answers : (View → List ℕ → List ℕ → View → Type 0) → View → List ℕ → List ℕ → Result (List ℕ) (List ℕ) → View → Type 0
+Answers kind before current next answer after = MatchResult answer
+    (λ found. (pointwise nat_eq found current ≡ true) × kind before found next after)
+    (λ found. (pointwise nat_eq found current ≡ false) × kind before found found after)
 
 -- What a compare and exchange answers: `Ok` if it found the words `current` and stored `next`, `Err` if it found others and stored nothing.
 abbrev pub Exchanges : (View → List ℕ → List ℕ → View → Type 0) → View → List ℕ → List ℕ → Result (List ℕ) (List ℕ) → View → Type 0

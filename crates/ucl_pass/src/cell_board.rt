@@ -3,18 +3,20 @@
 
 ghost use Rattle.std.specs.Prelude.{◌≡◌, ◌<◌, ◌++◌, ◌∷◌, [], take, length, slice_index, IfOk, IsSome, MatchResult};
 ghost use Rattle.atomic_table.specs.Seated.{TableId};
+ghost use Rattle.crossbeam_utils.specs.Register.{Forks, Merges, Turns};
 ghost use Rattle.crossbeam_utils.specs.Seq.{cell_view};
 ghost use Rattle.ucl_board.specs.Words.{AreWords};
 ghost use Rattle.ucl_live_board.specs.BoardInvariant.{BoardsOpenFresh};
 ghost use Rattle.ucl_live_board.specs.Passes.{reporter_figures};
 ghost use Rattle.ucl_board.specs.Log.{IsLegalStep};
-ghost use Rattle.ucl_pass.specs.CellInvariants.{words_after, ImpliesInvariant, cell_pass_view};
-ghost use Rattle.ucl_pass.specs.CellSteps.{LooksOnly, Exchanges, StoresEvent, IsNextBoard, entry_at, with_one_more};
+ghost use Rattle.ucl_pass.specs.CellInvariants.{CellInvariant, words_after, ImpliesInvariant, cell_pass_view};
+ghost use Rattle.ucl_pass.specs.CellSteps.{Answers, LooksOnly, Exchanges, exchanged, StoresEvent, IsNextBoard, entry_at, with_one_more};
 ghost use Rattle.ucl_pass.specs.CellRecords.{cell_pass_of, CellOpened, CellReported, CellRead, CellSplit, CellEnlisted, CellFull, CellMet, IsCellPassOf};
 
 use crate::passes::{CellReaderPass, CellReporterPass};
 use crate::rule::{Adds, Asking, Cell, CellRule, Enlists, Looks, Note, Reads, Seat, SecondPass};
-use crossbeam_utils::rule::Protocol;
+use atomic_table::{Join, Split};
+use crossbeam_utils::rule::{Outcome, Protocol};
 use std::alloc::Global;
 use std::marker::{Brand, Model};
 use std::sync::Wait;
@@ -87,6 +89,62 @@ impl CellBoard {
         Ok((CellBoard { cell }, CellReaderPass { seat }))
     }
 
+    // Each step on the cell goes through one of the four calls that follow, of any kind: so what the cell asks is stated once.
+
+    /// Loads all words of the cell, in a step of this kind.
+    fn load_as<Kind: Outcome<[u64; 13], View>, R: Wait>(&self, rt: &R, seat: &mut Seat) -> [u64; 13]
+        requires cell { seat.old.table_id ≡ self.now }
+        requires rule { Turns CellInvariant seat.old.id (cell_view seat.old) (λ words. words) Kind.then }
+        ensures own { seat.new.table_id ≡ seat.old.table_id }
+        ensures step { Kind.then (cell_view seat.old) result result (cell_view seat.new) }
+    {
+        self.cell.load_as::<Kind, R>(rt, seat)
+    }
+
+    /// Stores `next` if the cell has the words `current`, in a step of this kind; else answers `Err` with the words found.
+    fn exchange_as<Kind: Outcome<[u64; 13], View>, R: Wait>(
+        &self,
+        rt: &R,
+        seat: &mut Seat,
+        current: [u64; 13],
+        next: [u64; 13],
+    ) -> Result<[u64; 13], [u64; 13]>
+        requires cell { seat.old.table_id ≡ self.now }
+        requires rule { Turns CellInvariant seat.old.id (cell_view seat.old) (exchanged current next)
+            Kind.then }
+        ensures own { seat.new.table_id ≡ seat.old.table_id }
+        ensures step { Answers Kind.then (cell_view seat.old) current next result (cell_view seat.new) }
+    {
+        self.cell
+            .compare_exchange_as::<Kind, R>(rt, seat, current, next)
+    }
+
+    /// Splits a second seat off `seat`, in this way.
+    fn split_seat<Way: Split<View>>(&self, seat: &mut Seat) -> Seat
+        requires cell { seat.old.table_id ≡ self.now }
+        requires rule { Forks CellInvariant seat.old.id (cell_view seat.old)
+            (Way.left (cell_view seat.old)) (Way.right (cell_view seat.old)) }
+        ensures own { (seat.new.table_id ≡ seat.old.table_id) × (result.table_id ≡ seat.old.table_id) }
+        ensures kept { cell_view seat.new ≡ Way.left (cell_view seat.old) }
+        ensures given { cell_view result ≡ Way.right (cell_view seat.old) }
+        ensures idle { result.me.1 ≡ [] }
+    {
+        self.cell.split_pass::<Way>(seat)
+    }
+
+    /// Joins `other`, a seat that was split off, to `seat`, in this way.
+    fn join_seat<Way: Join<View>>(&self, seat: &mut Seat, other: Seat)
+        requires cell { seat.old.table_id ≡ self.now }
+        requires same { other.table_id ≡ seat.old.table_id }
+        requires idle { other.me.1 ≡ [] }
+        requires rule { Merges CellInvariant seat.old.id (cell_view seat.old) other.id (cell_view other)
+            (Way.both (cell_view seat.old) (cell_view other)) Way.spent }
+        ensures own { seat.new.table_id ≡ seat.old.table_id }
+        ensures joined { cell_view seat.new ≡ Way.both (cell_view seat.old) (cell_view other) }
+    {
+        self.cell.join_pass::<Way>(seat, other);
+    }
+
     /// Loads all words of the cell, in a step that is no reading: its version is not among those that the pass has read.
     fn load<R: Wait>(&self, rt: &R, seat: &mut Seat) -> [u64; 13]
         requires cell { seat.old.table_id ≡ self.now }
@@ -94,7 +152,7 @@ impl CellBoard {
         ensures own { seat.new.table_id ≡ seat.old.table_id }
         ensures looks { LooksOnly (cell_view seat.old) result result (cell_view seat.new) }
     {
-        self.cell.load_as::<Looks, R>(rt, seat)
+        self.load_as::<Looks, R>(rt, seat)
     }
 
     /// Stores `next`, the words after the event `call`, if the cell has the words `current`; else answers `Err` with the words found.
@@ -116,8 +174,7 @@ impl CellBoard {
     {
         // For the prover only: the number of the match is 1 to 12.
         let _number = call.game.get();
-        self.cell
-            .compare_exchange_as::<Adds<K>, R>(rt, seat, current, next)
+        self.exchange_as::<Adds<K>, R>(rt, seat, current, next)
     }
 
     /// Reads the board and its version, by one load of all words.
@@ -126,7 +183,7 @@ impl CellBoard {
         requires acts { IsSome (cell_view seat.old).share }
         ensures { CellRead (cell_pass_of seat.old) result (cell_pass_of seat.new) }
     {
-        let words = self.cell.load_as::<Reads, R>(rt, seat);
+        let words = self.load_as::<Reads, R>(rt, seat);
         Reading::of(&board_at(&words))
     }
 }
@@ -197,7 +254,7 @@ impl LiveBoard for CellBoard {
         ensures own { IsCellPassOf self.now pass.new × IsCellPassOf self.now result }
         ensures split { CellSplit pass.old pass.new result }
     {
-        let seat = self.cell.split_pass::<SecondPass>(&mut pass.seat);
+        let seat = self.split_seat::<SecondPass>(&mut pass.seat);
         CellReaderPass { seat }
     }
 
@@ -218,9 +275,7 @@ impl LiveBoard for CellBoard {
                 return Err(TooManyReporters(CellReaderPass { seat }));
             }
             let next = one_more_reporter(words);
-            let added = self
-                .cell
-                .compare_exchange_as::<Enlists, R>(rt, &mut seat, words, next);
+            let added = self.exchange_as::<Enlists, R>(rt, &mut seat, words, next);
             if added.is_ok() {
                 if let Some(number) = ReporterNo::new((enlisted + 1) as u8) {
                     return Ok(CellReporterPass {
@@ -241,8 +296,8 @@ impl LiveBoard for CellBoard {
         ensures own { IsCellPassOf self.now first.new × IsCellPassOf self.now second.new }
         ensures met { CellMet first.old first.new second.old second.new }
     {
-        let note = self.cell.split_pass::<Note>(&mut first.seat);
-        self.cell.join_pass::<Note>(&mut second.seat, note);
+        let note = self.split_seat::<Note>(&mut first.seat);
+        self.join_seat::<Note>(&mut second.seat, note);
         self.load(rt, &mut second.seat);
     }
 

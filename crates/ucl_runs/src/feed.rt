@@ -15,6 +15,9 @@ use ucl_board::Board;
 use ucl_rows::{RunFault, put_text, reply_line, word_lines};
 use ucl_screen::{FIRST_EVENT_ROW, NightEvent, Sink, Source, read_night};
 
+/// Room for a reply line, in bytes, which few exceed.
+const REPLY_BYTES: usize = 32;
+
 /// Enters the event of a row on a board of this version, appends a line with the reply to `out`, and returns the version afterwards.
 #[tactic(auto, unfolding(ucl_rows::specs::Lines::reply_line))]
 fn push_reply(
@@ -44,7 +47,7 @@ fn feed_text(alloc: Global, events: &[NightEvent]) -> Result<Vec<u8>, AllocError
     requires { length events.now ≤ max_bytes }
     ensures { IfOk result (λ text. text.items ≡ feed_text events.now) }
 {
-    let mut text = Vec::new(alloc);
+    let mut text = Vec::with_capacity(alloc, REPLY_BYTES * events.len())?;
     let mut board = Board::fresh();
     let mut version = 0;
     let mut row = u64::from(FIRST_EVENT_ROW);
