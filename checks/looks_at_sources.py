@@ -13,9 +13,10 @@ import sources
 UNCOUNTED = re.compile(r"\b(peek|park\w*|wake_\w+|load_new_seat|swap_new_seat|into_badge|close|close_with)\b|(?:\.|::)(pass|table|cell)\(")
 STEP = re.compile(
     r"\bimpl\b[^{]*\b(Play|Outcome|Split|Join)\b[^{]* for (?:\w+::)*([A-Za-z]+)"
-    r"|\b((?:load|store|swap|fetch|compare_exchange|split|join)(?:_\w+)?)::<(?!Brand\b)(\w+)"
+    r"|\b((?:load|store|swap|fetch|compare_exchange|split|join)(?:_\w+)?)::<(?!(?:Brand|Kind|Way)\b)(\w+)"
 )
-# The kinds of step of each board, in the order of the file of its rule, and the calls by which its steps are taken, of which a load writes nothing.
+# The kinds of step of each board, in the order of the file of its rule, and the calls by which its steps are taken, of which a load writes nothing. A call of
+# any `Kind` or `Way` is one that passes on what it is given.
 KINDS = {
     "crates/ucl_pass/src/rule.rt": "Outcome Looks, Outcome Reads, Outcome Adds, Outcome Enlists, Split SecondPass, Split Note, Join Note",
     "crates/ucl_words/src/rule.rt": "Play Look, Play First, Play Second, Play CountEnlisted, Play Swap, Play Enlist, Split SecondPass, Split Note, Join Note",
@@ -39,7 +40,7 @@ STEPS = {
 STEPS["ucl_words"].update({name[: -len("_now")]: steps for name, steps in STEPS["ucl_words"].items()})
 STEPS["ucl_live_board"] = {"settle": ""}
 TAKEN = re.compile(
-    r"\b((?:load|store|swap|fetch|compare_exchange|split|join)(?:_\w+)?::<(?!Brand\b)\w+|(?:for|while|loop)\b(?! *\())|\b(\w+)(?:::<[^()]*?>)?\("
+    r"\b((?:load|store|swap|fetch|compare_exchange|split|join)(?:_\w+)?::<(?!(?:Brand|Kind|Way)\b)\w+|(?:for|while|loop)\b(?! *\())|\b(\w+)(?:::<[^()]*?>)?\("
 )
 # What boards, passes and handles of C have, and what that is of.
 PARTS = """struct WordBoard { table: Table, }

@@ -27,10 +27,10 @@ use Rattle.ucl_screen.specs.Script.{club_of}
 use Rattle.ucl_word.proofs.AcceptedEvents.{accepts, after_number, after_valid}
 use Rattle.ucl_live_runs.specs.LiveTheorems.{entered_by}
 use Rattle.ucl_live_runs.specs.Requests.{named_mend, names_club, named_row}
-unfoldable use Rattle.ucl_live_runs.specs.MendTheorems.{MendsAreLegal}
+unfoldable use Rattle.ucl_mends.specs.MendTheorems.{MendsAreLegal}
 use Rattle.ucl_live_runs.proofs.Entered.{entered-history}
 use Rattle.ucl_live_runs.proofs.Lines.{is_open, on-board, silent}
-use Rattle.ucl_live_runs.proofs.Mends.{mends_legal}
+use Rattle.ucl_mends.proofs.Mends.{mends_legal}
 
 -- a roster with a club put in a slot, if a roster takes it, is a roster
 good-put : (slot : ℕ) (clubs : List NamedClub) (o : Option NamedClub) → IsRoster clubs → IsRoster (put_in slot clubs o)

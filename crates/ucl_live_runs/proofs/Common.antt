@@ -49,8 +49,8 @@ pub use Rattle.ucl_live_runs.specs.LiveText.{Session, answer_at, answer_of, answ
 pub use Rattle.ucl_live_runs.specs.LiveText.{missing_after, missing_now, moved, next, next_at, request_stage, screen_after, screen_if}
 pub use Rattle.ucl_live_runs.specs.LiveText.{stage, start_of}
 pub use Rattle.ucl_live_runs.specs.LiveTheorems.{answer_by_history, attempts_of, ended, line_by_history, reply_by_history, uncut_lines}
-pub use Rattle.ucl_live_runs.specs.Mended.{call_again, entered, fate_by, fate_of, has_row, history_in, kept_after, kept_by, left_by}
-pub use Rattle.ucl_live_runs.specs.Mended.{left_out, left_out_after, mended, row_number, standing_of}
+pub use Rattle.ucl_mends.specs.Mended.{call_again, entered, fate_by, fate_of, has_row, history_in, kept_after, kept_by, left_by}
+pub use Rattle.ucl_mends.specs.Mended.{left_out, left_out_after, mended, row_number, standing_of}
 pub use Rattle.ucl_live_runs.specs.Mends.{board_in, clubs_after, edition_after, edition_reply, events_after, left_out_by, left_out_lines}
 pub use Rattle.ucl_live_runs.specs.Mends.{mend_refused_answer, mended_answer, put_at, put_in, row_named}
 pub use Rattle.ucl_live_runs.specs.Phases.{Reached, after_beginning, after_club, after_header, club_said, fault_row, missing, open_at}
@@ -59,20 +59,20 @@ pub use Rattle.ucl_live_runs.specs.Requests.{asked_header, edition_by, event_or_
 pub use Rattle.ucl_live_runs.specs.Requests.{is_mend, is_same_order, mend_by, mend_or_bad, request_of, shown_by, slot_in}
 pub use Rattle.ucl_live_runs.specs.SessionRuns.{Closes, HasNoAnswer, HasNoEnd, IsOutInPart, IsRejected, after_bytes, answers_to, end_of}
 pub use Rattle.ucl_live_runs.specs.SessionRuns.{missing_at, session_due, session_of}
-pub use Rattle.ucl_live_runs.specs.Standing.{IsMendedSoFar, MendsOneMore}
+pub use Rattle.ucl_mends.specs.Standing.{IsMendedSoFar, MendsOneMore}
 pub use Rattle.ucl_live_runs.specs.declared.follower.FollowState.{FollowState}
 pub use Rattle.ucl_live_runs.specs.declared.live_fault.LiveFault.{LiveFault}
 pub use Rattle.ucl_live_runs.specs.declared.live_fault.LiveFault.TheVariants.{OtherGroup, Run}
-pub use Rattle.ucl_live_runs.specs.declared.mend_refusal.MendRefusal.{MendRefusal}
+pub use Rattle.ucl_mends.specs.declared.mend_refusal.MendRefusal.{MendRefusal}
 pub use Rattle.ucl_live_runs.specs.declared.phase.Phase.TheVariants.{AwaitingClubs, AwaitingHeader, Open}
 pub use Rattle.ucl_live_runs.specs.declared.request.Mend.{Mend}
 pub use Rattle.ucl_live_runs.specs.declared.request.Mend.TheVariants.{As, Club, Without}
 pub use Rattle.ucl_live_runs.specs.declared.request.Request.{Request}
 pub use Rattle.ucl_live_runs.specs.declared.request.Request.TheVariants.{Bad, Event, Matches, Mends, Screen, Words}
-pub use Rattle.ucl_live_runs.specs.declared.standing.Fate.{Fate}
-pub use Rattle.ucl_live_runs.specs.declared.standing.Fate.TheVariants.{Kept, Named, Refused}
-pub use Rattle.ucl_live_runs.specs.declared.standing.LeftOut.{LeftOut}
-pub use Rattle.ucl_live_runs.specs.declared.standing.StandingEvent.{StandingEvent}
+pub use Rattle.ucl_mends.specs.declared.standing.Fate.{Fate}
+pub use Rattle.ucl_mends.specs.declared.standing.Fate.TheVariants.{Kept, Named, Refused}
+pub use Rattle.ucl_mends.specs.declared.standing.LeftOut.{LeftOut}
+pub use Rattle.ucl_mends.specs.declared.standing.StandingEvent.{StandingEvent}
 pub use Rattle.ucl_order.specs.Names.{profile_name, profile_named}
 pub use Rattle.ucl_order.specs.Roster.{IsClub, IsRoster, NamedClub, bad_slot, club_lent, is_name, is_printed, named}
 pub use Rattle.ucl_order.specs.declared.profile.Profile.{Profile}

@@ -2,7 +2,7 @@
 use Rattle.ucl_live_runs.proofs.Common.{All-cons, All-nil, IsAttempt, IsLegal, List, NightEvent, StandingEvent, [], after_attempt, ap}
 use Rattle.ucl_live_runs.proofs.Common.{attempt_board, attempt_of, attempts_from, board_after, board_of, cases_Bool, entered, history_in}
 use Rattle.ucl_live_runs.proofs.Common.{inl, inr, is_ok, refl, sequential_reply, standing_of, subst, sym, ℕ, ◌∙◌, ◌∷◌, ◌≡◌}
-use Rattle.ucl_live_runs.proofs.Mends.{history-more}
+use Rattle.ucl_mends.proofs.Mends.{history-more}
 
 -- after an event is entered, the history of the events that stand is that of before, after the attempt to enter it
 pub entered-history : (row : ℕ) (events : List StandingEvent) (event : NightEvent) → history_in (entered row events event) ≡ after_attempt (history_in events) (attempt_of event)

@@ -2,9 +2,7 @@ pub mod Common
 pub mod Boards
 pub mod Lines
 pub mod FollowShown
-pub mod Mends
 pub mod Entered
-pub mod LeftOuts
 pub mod Runs
 pub mod AnswerValues
 pub mod AnswerLines

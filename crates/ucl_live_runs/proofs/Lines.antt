@@ -17,7 +17,7 @@ use Rattle.ucl_live_runs.proofs.Common.{shown_text, stage, subst, sym, take, tak
 use Rattle.ucl_live_runs.proofs.Common.{uncut_lines, words_value, ℕ, ◌++◌, ◌+◌, ◌-◌, ◌<◌, ◌==◌, ◌^◌, ◌∙◌, ◌∷◌, ◌≡◌, ◌≤◌}
 use Rattle.std.proofs.Common.{drop}
 use Rattle.ucl_live_runs.specs.LiveTheorems.{IsMended}
-use Rattle.ucl_live_runs.specs.MendNames.{mend_refusal_code, mend_refusal_name}
+use Rattle.ucl_mends.specs.MendNames.{mend_refusal_code, mend_refusal_name}
 use Rattle.ucl_screen.specs.declared.fault.InputFault.TheVariants.{BadRow}
 
 -- a session has reached an open board

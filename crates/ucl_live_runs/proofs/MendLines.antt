@@ -4,8 +4,8 @@ use Rattle.ucl_live_runs.proofs.Common.{left_out_value, mend_refused_value, mend
 use Rattle.std.specs.Prelude.{Option, Some, length}
 use Rattle.serde_json.proofs.OnLiterals.{serde_json_on_literals}
 use Rattle.ucl_json.specs.BoardLines.{parse_board_state}
-use Rattle.ucl_live_runs.specs.MendNames.{mend_refusal_code, mend_refusal_name}
-use Rattle.ucl_live_runs.specs.declared.mend_refusal.MendRefusal.TheVariants.{LastEdition, NoEvent}
+use Rattle.ucl_mends.specs.MendNames.{mend_refusal_code, mend_refusal_name}
+use Rattle.ucl_mends.specs.declared.mend_refusal.MendRefusal.TheVariants.{LastEdition, NoEvent}
 use Rattle.ucl_json.proofs.AnswerSizes.{digits-20, kind-text, refusal-text}
 use Rattle.ucl_json.proofs.PlainValues.{IsText}
 use Rattle.ucl_live_runs.proofs.AnswerLines.{CarriesAtMost, IsLineThat, silent-line, value-line}

@@ -22,7 +22,7 @@ use Rattle.ucl_live_runs.proofs.Common.{◌∙◌, ◌∷◌, ◌≡◌, ◌≤�
 use Rattle.ucl_command.proofs.Letters.{asked_letter}
 use Rattle.ucl_command.specs.Groups.{may_be_asked}
 use Rattle.ucl_screen.specs.Numbers.{number}
-unfoldable use Rattle.ucl_live_runs.specs.Mended.{left_out_after}
+unfoldable use Rattle.ucl_mends.specs.Mended.{left_out_after}
 use Rattle.ucl_live_runs.proofs.AnswerLines.{CarriesAtMost, IsLineThat, IsShown, bad-line, begun-then, board-fits, carried-then, carried_in}
 use Rattle.ucl_live_runs.proofs.AnswerLines.{found-fits}
 use Rattle.ucl_live_runs.proofs.AnswerLines.{matches-line, most-as, most-none, most-then, refused-line, value-line, words-line}
@@ -31,10 +31,10 @@ use Rattle.ucl_live_runs.proofs.Boards.{IsGood, IsPossible, good-after, good-clu
 use Rattle.ucl_live_runs.proofs.Boards.{possible, ranged, version-after}
 use Rattle.ucl_live_runs.proofs.Entered.{entered-board, entered-legal}
 use Rattle.ucl_live_runs.proofs.FollowShown.{IsOfSame}
-use Rattle.ucl_live_runs.proofs.LeftOuts.{few-left}
+use Rattle.ucl_mends.proofs.LeftOuts.{few-left}
 use Rattle.ucl_live_runs.proofs.Lines.{by-line}
 use Rattle.ucl_live_runs.proofs.MendLines.{left-out-line, mend-refused-line, mended-line}
-use Rattle.ucl_live_runs.proofs.Mends.{few}
+use Rattle.ucl_mends.proofs.Mends.{few}
 
 -- the first is of the group and order of the second, and of an earlier edition, or of the same one and a lower version
 pub record IsBehind (o m : BoardState) : Type 0 where

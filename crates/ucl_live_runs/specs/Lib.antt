@@ -4,10 +4,6 @@ pub mod Clubs
 pub mod Mends
 pub mod Phases
 pub mod LiveText
-pub mod Mended
-pub mod MendNames
-pub mod MendTheorems
-pub mod Standing
 pub mod LiveTheorems
 pub mod SessionRuns
 pub mod Follow

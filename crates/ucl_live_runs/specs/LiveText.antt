@@ -12,16 +12,16 @@ use Rattle.ucl_live_runs.specs.declared.live_fault.LiveFault.{LiveFault}
 use Rattle.ucl_screen.specs.declared.night.NightEvent.{NightEvent}
 use Rattle.ucl_word.specs.declared.event.Accepted.{Accepted}
 use Rattle.ucl_word.specs.declared.refusal.Refusal.{Refusal}
-use Rattle.ucl_live_runs.specs.Mended.{entered, history_in}
+use Rattle.ucl_mends.specs.Mended.{entered, history_in}
 use Rattle.ucl_live_runs.specs.Mends.{board_in, clubs_after, edition_reply, events_after, left_out_by, mend_refused_answer, mended_answer, row_named}
 use Rattle.ucl_live_runs.specs.Phases.{Reached, after_beginning, after_club, club_said, missing, open_at}
 use Rattle.ucl_live_runs.specs.Requests.{asked_header, header_said, is_group_row, request_of}
-use Rattle.ucl_live_runs.specs.declared.mend_refusal.MendRefusal.{MendRefusal}
+use Rattle.ucl_mends.specs.declared.mend_refusal.MendRefusal.{MendRefusal}
 use Rattle.ucl_live_runs.specs.declared.phase.Phase.TheVariants.{AwaitingClubs, AwaitingHeader, Open}
 use Rattle.ucl_live_runs.specs.declared.request.Mend.{Mend}
 use Rattle.ucl_live_runs.specs.declared.request.Request.{Request}
 use Rattle.ucl_live_runs.specs.declared.request.Request.TheVariants.{Bad, Event, Matches, Mends, Screen, Words}
-use Rattle.ucl_live_runs.specs.declared.standing.StandingEvent.{StandingEvent}
+use Rattle.ucl_mends.specs.declared.standing.StandingEvent.{StandingEvent}
 
 -- a session between two lines: its options, the header of its board, the number of the next line, and its phase or the fault that it is
 -- refused for

@@ -11,9 +11,9 @@ use Rattle.ucl_json.specs.declared.header.BoardHeader.{BoardHeader}
 use Rattle.ucl_live_runs.specs.declared.request.Request.{Request}
 use Rattle.ucl_live_runs.specs.declared.request.Request.TheVariants.{Bad, Event, Matches, Mends, Screen, Words}
 use Rattle.ucl_live_runs.specs.declared.request.Mend.{Mend}
-use Rattle.ucl_live_runs.specs.declared.mend_refusal.MendRefusal.{MendRefusal}
-use Rattle.ucl_live_runs.specs.declared.standing.StandingEvent.{StandingEvent}
-use Rattle.ucl_live_runs.specs.Mended.{entered, history_in}
+use Rattle.ucl_mends.specs.declared.mend_refusal.MendRefusal.{MendRefusal}
+use Rattle.ucl_mends.specs.declared.standing.StandingEvent.{StandingEvent}
+use Rattle.ucl_mends.specs.Mended.{entered, history_in}
 use Rattle.ucl_live_runs.specs.Mends.{clubs_after, edition_reply, events_after}
 use Rattle.ucl_order.specs.Roster.{NamedClub}
 use Rattle.ucl_rows.specs.Answers.{bad_answer, matches_answer, reply_answer, screen_answer, words_answer}

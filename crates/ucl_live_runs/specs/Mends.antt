@@ -12,15 +12,15 @@ use Rattle.ucl_screen.specs.Rows.{FourFields}
 use Rattle.ucl_live_runs.specs.Requests.{slot_in}
 use Rattle.ucl_rows.specs.Rows.{Row, Said}
 use Rattle.ucl_screen.specs.Script.{club_of}
-use Rattle.ucl_live_runs.specs.Mended.{history_in, left_out, mend_reply, mended}
-use Rattle.ucl_live_runs.specs.MendNames.{mend_refusal_code, mend_refusal_name}
-use Rattle.ucl_live_runs.specs.declared.mend_refusal.MendRefusal.{MendRefusal}
-use Rattle.ucl_live_runs.specs.declared.mend_refusal.MendRefusal.TheVariants.{LastEdition}
+use Rattle.ucl_mends.specs.Mended.{history_in, left_out, mend_reply, mended}
+use Rattle.ucl_mends.specs.MendNames.{mend_refusal_code, mend_refusal_name}
+use Rattle.ucl_mends.specs.declared.mend_refusal.MendRefusal.{MendRefusal}
+use Rattle.ucl_mends.specs.declared.mend_refusal.MendRefusal.TheVariants.{LastEdition}
 use Rattle.ucl_live_runs.specs.declared.request.Mend.{Mend}
 use Rattle.ucl_live_runs.specs.declared.request.Mend.TheVariants.{As, Club, Without}
 use Rattle.ucl_live_runs.specs.declared.mend_answer.LeftOutLines.{LeftOutLines}
-use Rattle.ucl_live_runs.specs.declared.standing.LeftOut.{LeftOut}
-use Rattle.ucl_live_runs.specs.declared.standing.StandingEvent.{StandingEvent}
+use Rattle.ucl_mends.specs.declared.standing.LeftOut.{LeftOut}
+use Rattle.ucl_mends.specs.declared.standing.StandingEvent.{StandingEvent}
 
 -- the words of the board of the events that stand
 abbrev pub board_in : List StandingEvent → List ℕ

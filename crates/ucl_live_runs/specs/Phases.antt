@@ -2,7 +2,7 @@
 use Rattle.std.specs.Prelude.{Err, List, None, Ok, Option, Result, Some, [], codes, length, min, ℕ}
 use Rattle.ucl_command.specs.declared.live.LiveArgs.{LiveArgs}
 use Rattle.ucl_json.specs.declared.header.BoardHeader.{BoardHeader}
-use Rattle.ucl_live_runs.specs.declared.standing.StandingEvent.{StandingEvent}
+use Rattle.ucl_mends.specs.declared.standing.StandingEvent.{StandingEvent}
 use Rattle.ucl_order.specs.Roster.{NamedClub, bad_slot}
 use Rattle.ucl_rows.specs.Rows.{Row, Said}
 use Rattle.ucl_live_runs.specs.declared.live_fault.LiveFault.{LiveFault}

@@ -12,13 +12,10 @@ mod live_fault;
 mod live_program;
 mod live_theorems;
 mod mend_answer;
-mod mend_refusal;
-mod mend_theorems;
 mod open_board;
 mod phase;
 mod request;
 mod session;
-mod standing;
 
 pub use follow_program::run_following;
 pub use follow_theorems::{
@@ -34,9 +31,8 @@ pub use live_theorems::{
     mends_are_done, refused_sessions_are_silent, replies_are_those_of_feed,
     sessions_are_sequential,
 };
-pub use mend_refusal::MendRefusal;
-pub use mend_theorems::{
-    later_events_go_on, mends_are_legal, other_matches_stay, whole_histories_are_kept,
-};
 pub use session::{Session, live_run};
-pub use standing::{Fate, LeftOut, LeftOutEvents, StandingEvent, StandingEvents};
+pub use ucl_mends::{
+    Fate, LeftOut, LeftOutEvents, MendRefusal, StandingEvent, StandingEvents, later_events_go_on,
+    mends_are_legal, other_matches_stay, whole_histories_are_kept,
+};

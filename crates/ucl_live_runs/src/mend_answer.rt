@@ -2,16 +2,15 @@
 
 ghost use Rattle.std.specs.Prelude.{◌≡◌, [], IfOk};
 ghost use Rattle.ucl_rows.specs.Answers.{bytes_of};
-ghost use Rattle.ucl_live_runs.specs.Mended.{left_out};
+ghost use Rattle.ucl_mends.specs.Mended.{left_out};
 ghost use Rattle.ucl_live_runs.specs.Mends.{HoldsLeftOut, mend_refused_answer, mended_line};
 
-use crate::mend_refusal::MendRefusal;
-use crate::standing::StandingEvents;
 use arrayvec::ArrayString;
 use itoa::Buffer;
 use std::alloc::{AllocError, Global};
 use ucl_command::Format;
 use ucl_json::{left_out_json, mend_refused_json};
+use ucl_mends::{MendRefusal, StandingEvents};
 use ucl_rows::{Answer, ReplyLine};
 
 /// The events that a mend leaves out, as lines of JSON, and how many they are.

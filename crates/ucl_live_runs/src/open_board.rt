@@ -2,7 +2,7 @@
 //! mends it.
 
 ghost use Rattle.std.specs.Prelude.{◌≡◌, ◌+◌, ◌++◌, if◌then◌else◌, [], List, IfOk, IsOk, OnOk, string_bytes};
-ghost use Rattle.ucl_live_runs.specs.declared.standing.LeftOut.{LeftOut};
+ghost use Rattle.ucl_mends.specs.declared.standing.LeftOut.{LeftOut};
 ghost use Rattle.ucl_screen.specs.Screen.{IsGroup};
 ghost use Rattle.ucl_rows.specs.Answers.{bytes_of};
 ghost use Rattle.ucl_rows.specs.BadRows.{shown_text};
@@ -11,18 +11,17 @@ ghost use Rattle.ucl_live_runs.specs.SessionRuns.{session_at};
 ghost use Rattle.ucl_live_runs.specs.LiveText.{answer_said, mend_answer, mended_stage, next, screen_if, stage};
 ghost use Rattle.ucl_live_runs.specs.Mends.{HoldsLeftOut, board_in, clubs_after, edition_after, edition_reply, events_after, left_out_by, mended_answer, row_named};
 ghost use Rattle.ucl_live_runs.specs.Phases.{open_at};
-ghost use Rattle.ucl_live_runs.specs.declared.mend_refusal.MendRefusal.{MendRefusal};
+ghost use Rattle.ucl_mends.specs.declared.mend_refusal.MendRefusal.{MendRefusal};
 ghost use Rattle.ucl_live_runs.specs.declared.phase.Phase.TheVariants.{Open};
 
 use crate::clubs::put_club;
 use crate::config::{Config, Line};
 use crate::header::HeaderState;
 use crate::mend_answer::{LeftOutLines, mend_refused_answer, mended_line};
-use crate::mend_refusal::MendRefusal;
 use crate::request::{Mend, Request, request_of};
-use crate::standing::StandingEvents;
 use ucl_command::Format;
 use ucl_json::{BoardHeader, EventReply, MendReply, mended_json};
+use ucl_mends::{MendRefusal, StandingEvents};
 use ucl_order::Roster;
 use ucl_rows::{
     Answer, RowFields, bad_answer, line_answer, matches_answer, reply_answer, screen_text,

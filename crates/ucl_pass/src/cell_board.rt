@@ -102,7 +102,7 @@ impl CellBoard {
     }
 
     /// Stores `next` if the cell has the words `current`, in a step of this kind; else answers `Err` with the words found.
-    fn exchange_as<Kind: Outcome<[u64; 13], View>, R: Wait>(
+    fn compare_exchange_as<Kind: Outcome<[u64; 13], View>, R: Wait>(
         &self,
         rt: &R,
         seat: &mut Seat,
@@ -120,7 +120,7 @@ impl CellBoard {
     }
 
     /// Splits a second seat off `seat`, in this way.
-    fn split_seat<Way: Split<View>>(&self, seat: &mut Seat) -> Seat
+    fn split_pass<Way: Split<View>>(&self, seat: &mut Seat) -> Seat
         requires cell { seat.old.table_id ≡ self.now }
         requires rule { Forks CellInvariant seat.old.id (cell_view seat.old)
             (Way.left (cell_view seat.old)) (Way.right (cell_view seat.old)) }
@@ -133,7 +133,7 @@ impl CellBoard {
     }
 
     /// Joins `other`, a seat that was split off, to `seat`, in this way.
-    fn join_seat<Way: Join<View>>(&self, seat: &mut Seat, other: Seat)
+    fn join_pass<Way: Join<View>>(&self, seat: &mut Seat, other: Seat)
         requires cell { seat.old.table_id ≡ self.now }
         requires same { other.table_id ≡ seat.old.table_id }
         requires idle { other.me.1 ≡ [] }
@@ -174,7 +174,7 @@ impl CellBoard {
     {
         // For the prover only: the number of the match is 1 to 12.
         let _number = call.game.get();
-        self.exchange_as::<Adds<K>, R>(rt, seat, current, next)
+        self.compare_exchange_as::<Adds<K>, R>(rt, seat, current, next)
     }
 
     /// Reads the board and its version, by one load of all words.
@@ -254,7 +254,7 @@ impl LiveBoard for CellBoard {
         ensures own { IsCellPassOf self.now pass.new × IsCellPassOf self.now result }
         ensures split { CellSplit pass.old pass.new result }
     {
-        let seat = self.split_seat::<SecondPass>(&mut pass.seat);
+        let seat = self.split_pass::<SecondPass>(&mut pass.seat);
         CellReaderPass { seat }
     }
 
@@ -275,7 +275,7 @@ impl LiveBoard for CellBoard {
                 return Err(TooManyReporters(CellReaderPass { seat }));
             }
             let next = one_more_reporter(words);
-            let added = self.exchange_as::<Enlists, R>(rt, &mut seat, words, next);
+            let added = self.compare_exchange_as::<Enlists, R>(rt, &mut seat, words, next);
             if added.is_ok() {
                 if let Some(number) = ReporterNo::new((enlisted + 1) as u8) {
                     return Ok(CellReporterPass {
@@ -296,8 +296,8 @@ impl LiveBoard for CellBoard {
         ensures own { IsCellPassOf self.now first.new × IsCellPassOf self.now second.new }
         ensures met { CellMet first.old first.new second.old second.new }
     {
-        let note = self.split_seat::<Note>(&mut first.seat);
-        self.join_seat::<Note>(&mut second.seat, note);
+        let note = self.split_pass::<Note>(&mut first.seat);
+        self.join_pass::<Note>(&mut second.seat, note);
         self.load(rt, &mut second.seat);
     }
 

@@ -1,5 +1,5 @@
 use Rattle.ucl_live_runs.proofs.Common.{ap, arith, left_out_lines, length, ◌∙◌}
-use Rattle.ucl_live_runs.proofs.LeftOuts.{few-left}
+use Rattle.ucl_mends.proofs.LeftOuts.{few-left}
 use Rattle.ucl_live_runs.proofs.mend_answer.LeftOutLines.of.Goals as goal
 
 pub loop-left-init : goal.loop-left-init

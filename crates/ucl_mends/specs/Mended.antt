@@ -9,12 +9,12 @@ use Rattle.ucl_word.specs.declared.refusal.Refusal.{Refusal}
 use Rattle.ucl_board.specs.declared.entry.Entry.{Entry}
 use Rattle.ucl_board.specs.History.{entry_of, match_after, sequential_reply}
 use Rattle.ucl_screen.specs.declared.night.NightEvent.{NightEvent}
-use Rattle.ucl_live_runs.specs.declared.standing.StandingEvent.{StandingEvent}
-use Rattle.ucl_live_runs.specs.declared.standing.LeftOut.{LeftOut}
-use Rattle.ucl_live_runs.specs.declared.standing.Fate.{Fate}
-use Rattle.ucl_live_runs.specs.declared.standing.Fate.TheVariants.{Kept, Named, Refused}
-use Rattle.ucl_live_runs.specs.declared.mend_refusal.MendRefusal.{MendRefusal}
-use Rattle.ucl_live_runs.specs.declared.mend_refusal.MendRefusal.TheVariants.{LastEdition, NoEvent}
+use Rattle.ucl_mends.specs.declared.standing.StandingEvent.{StandingEvent}
+use Rattle.ucl_mends.specs.declared.standing.LeftOut.{LeftOut}
+use Rattle.ucl_mends.specs.declared.standing.Fate.{Fate}
+use Rattle.ucl_mends.specs.declared.standing.Fate.TheVariants.{Kept, Named, Refused}
+use Rattle.ucl_mends.specs.declared.mend_refusal.MendRefusal.{MendRefusal}
+use Rattle.ucl_mends.specs.declared.mend_refusal.MendRefusal.TheVariants.{LastEdition, NoEvent}
 
 -- ---- the events that stand
 

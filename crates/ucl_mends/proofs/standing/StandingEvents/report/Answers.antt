@@ -1,7 +1,7 @@
-use Rattle.ucl_live_runs.proofs.Common.{arith, history_in}
+use Rattle.ucl_mends.proofs.Common.{arith, history_in}
 use Rattle.ucl_board.specs.History.{entry_of}
-use Rattle.ucl_live_runs.proofs.Mends.{has-room}
-use Rattle.ucl_live_runs.proofs.standing.StandingEvents.report.Goals as goal
+use Rattle.ucl_mends.proofs.Mends.{has-room}
+use Rattle.ucl_mends.proofs.standing.StandingEvents.report.Goals as goal
 
 pub push_reserved-requires : goal.push_reserved-requires
 push_reserved-requires c =

@@ -1,7 +1,7 @@
 -- The events that a mend leaves out are at most as many as those that stand.
-use Rattle.ucl_live_runs.proofs.Common.{Fate, List, Refused, StandingEvent, [], arith, fate_of, kept_after, left_by, left_out, length}
-use Rattle.ucl_live_runs.proofs.Common.{length-append, ℕ, ◌∷◌, ◌≤◌}
-unfoldable use Rattle.ucl_live_runs.specs.Mended.{left_out_after}
+use Rattle.ucl_mends.proofs.Common.{Fate, List, Refused, StandingEvent, [], arith, fate_of, kept_after, left_by, left_out, length}
+use Rattle.ucl_mends.proofs.Common.{length-append, ℕ, ◌∷◌, ◌≤◌}
+unfoldable use Rattle.ucl_mends.specs.Mended.{left_out_after}
 
 -- of one event, whatever its fate, at most one is left out
 at-most-one : (event : StandingEvent) (fate : Fate) → length (left_by event fate) ≤ 1

@@ -1,6 +1,6 @@
-use Rattle.ucl_live_runs.proofs.Common.{IsMendedSoFar, left_out_after, length, mended, take, ◌-◌, ◌≡◌}
+use Rattle.ucl_mends.proofs.Common.{IsMendedSoFar, left_out_after, length, mended, take, ◌-◌, ◌≡◌}
 use Rattle.std.proofs.Common.{drop}
-use Rattle.ucl_live_runs.proofs.standing.LeftOutEventsIterator.next.Given as goal
+use Rattle.ucl_mends.proofs.standing.LeftOutEventsIterator.next.Given as goal
 
 abbrev pub invariant-loop-self : goal.invariant-loop-self
 invariant-loop-self l =

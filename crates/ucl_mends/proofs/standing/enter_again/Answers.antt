@@ -1,6 +1,6 @@
-use Rattle.ucl_live_runs.proofs.Common.{IsMatch, MatchRecord, ap}
-use Rattle.ucl_live_runs.proofs.Mends.{goes-kept, goes-refused}
-use Rattle.ucl_live_runs.proofs.standing.enter_again.Goals as goal
+use Rattle.ucl_mends.proofs.Common.{IsMatch, MatchRecord, ap}
+use Rattle.ucl_mends.proofs.Mends.{goes-kept, goes-refused}
+use Rattle.ucl_mends.proofs.standing.enter_again.Goals as goal
 
 pub returns-in-Ok : goal.returns-in-Ok
 returns-in-Ok c =

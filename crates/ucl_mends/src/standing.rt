@@ -5,8 +5,8 @@ ghost use Rattle.std.specs.Prelude.{◌≡◌, ◌≤◌, ℕ, List, [], IfOk, l
 ghost use Rattle.std.specs.Iterator.{YieldsFirst, item_count};
 ghost use Rattle.ucl_board.specs.History.{IsLegal, board_of, sequential_reply};
 ghost use Rattle.ucl_board.specs.Words.{version_of};
-ghost use Rattle.ucl_live_runs.specs.Mended.{after_mend, entered, has_row, history_in, left_out, mend_reply, row_number};
-ghost use Rattle.ucl_live_runs.specs.Standing.{MendsOneMore};
+ghost use Rattle.ucl_mends.specs.Mended.{after_mend, entered, has_row, history_in, left_out, mend_reply, row_number};
+ghost use Rattle.ucl_mends.specs.Standing.{MendsOneMore};
 
 use crate::mend_refusal::MendRefusal;
 use std::alloc::{AllocError, Global};
@@ -60,8 +60,8 @@ pub struct StandingEvents {
 
 impl Model for StandingEvents {
     ghost use Rattle.std.specs.Prelude.{List, vec_capacity};
-    ghost use Rattle.ucl_live_runs.specs.declared.standing.StandingEvent.{StandingEvent};
-    ghost use Rattle.ucl_live_runs.specs.Standing.{AreStanding};
+    ghost use Rattle.ucl_mends.specs.declared.standing.StandingEvent.{StandingEvent};
+    ghost use Rattle.ucl_mends.specs.Standing.{AreStanding};
 
     ghost Value = { List StandingEvent };
 
@@ -81,9 +81,9 @@ pub struct LeftOutEvents<'a> {
 
 impl<'a> Model for LeftOutEvents<'a> {
     ghost use Rattle.std.specs.Prelude.{List, drop, take};
-    ghost use Rattle.ucl_live_runs.specs.declared.standing.LeftOut.{LeftOut};
-    ghost use Rattle.ucl_live_runs.specs.Mended.{left_out_after, mended};
-    ghost use Rattle.ucl_live_runs.specs.Standing.{IsMendedSoFar};
+    ghost use Rattle.ucl_mends.specs.declared.standing.LeftOut.{LeftOut};
+    ghost use Rattle.ucl_mends.specs.Mended.{left_out_after, mended};
+    ghost use Rattle.ucl_mends.specs.Standing.{IsMendedSoFar};
 
     ghost Value = { List LeftOut };
 

@@ -1,13 +1,13 @@
 -- What a mend keeps of the events that stand, and what it leaves out.
-use Rattle.ucl_live_runs.proofs.Common.{Accepted, All, All-cons, All-head, All-nil, All-tail, Bool, Entry, EventCall, Fate, IsAttempt}
-use Rattle.ucl_live_runs.proofs.Common.{IsLegal, IsMatch, IsMendedSoFar, IsReporter, Kept, LeftOut, List, MatchRecord, MayFollow}
-use Rattle.ucl_live_runs.proofs.Common.{MendsOneMore, Named, Option, Refusal, Refused, Result, StandingEvent, [], answer, ap, append-nil}
-use Rattle.ucl_live_runs.proofs.Common.{append_assoc, append_cancel_left, arith, attempts_from, board_of, call_again, cases_Bool, cases_eq}
-use Rattle.ucl_live_runs.proofs.Common.{drop-drop, drop-set-lt, drop_all, drop_more, false, fate_by, fate_of, filter-append, fold}
-use Rattle.ucl_live_runs.proofs.Common.{fold-append, game_after, game_at, get_or, get_or-drop, history_in, if◌then◌else◌, inl, inr, is_ok}
-use Rattle.ucl_live_runs.proofs.Common.{kept_after, kept_by, left_by, left_out, length, length-append, length-map, length-set, map-append}
-use Rattle.ucl_live_runs.proofs.Common.{may_begin, may_last, may_none, mended, ne_eqb, refl, sequential_reply, set, subst, sym, take}
-use Rattle.ucl_live_runs.proofs.Common.{take_more, take_more_set, true, version_of, ℕ, ◌++◌, ◌+◌, ◌<◌, ◌==◌, ◌∙◌, ◌∷◌, ◌≡◌, ◌≤◌, ◌⊎◌}
+use Rattle.ucl_mends.proofs.Common.{Accepted, All, All-cons, All-head, All-nil, All-tail, Bool, Entry, EventCall, Fate, IsAttempt}
+use Rattle.ucl_mends.proofs.Common.{IsLegal, IsMatch, IsMendedSoFar, IsReporter, Kept, LeftOut, List, MatchRecord, MayFollow}
+use Rattle.ucl_mends.proofs.Common.{MendsOneMore, Named, Option, Refusal, Refused, Result, StandingEvent, [], answer, ap, append-nil}
+use Rattle.ucl_mends.proofs.Common.{append_assoc, append_cancel_left, arith, attempts_from, board_of, call_again, cases_Bool, cases_eq}
+use Rattle.ucl_mends.proofs.Common.{drop-drop, drop-set-lt, drop_all, drop_more, false, fate_by, fate_of, filter-append, fold}
+use Rattle.ucl_mends.proofs.Common.{fold-append, game_after, game_at, get_or, get_or-drop, history_in, if◌then◌else◌, inl, inr, is_ok}
+use Rattle.ucl_mends.proofs.Common.{kept_after, kept_by, left_by, left_out, length, length-append, length-map, length-set, map-append}
+use Rattle.ucl_mends.proofs.Common.{may_begin, may_last, may_none, mended, ne_eqb, refl, sequential_reply, set, subst, sym, take}
+use Rattle.ucl_mends.proofs.Common.{take_more, take_more_set, true, version_of, ℕ, ◌++◌, ◌+◌, ◌<◌, ◌==◌, ◌∙◌, ◌∷◌, ◌≡◌, ◌≤◌, ◌⊎◌}
 use Rattle.std.proofs.Common.{◌≢◌, map, Ok, Err}
 use Rattle.std.proofs.Common.{drop}
 use mathlib.Core.List.{IsPrefix}
@@ -17,9 +17,9 @@ use Rattle.ucl_word.proofs.EntryCounts.{number_of_count}
 use Rattle.ucl_board.specs.History.{attempted, entries_of, followed_by, match_after}
 use Rattle.ucl_board.specs.History.{of_match}
 use Rattle.ucl_board.proofs.HistoryTheorems.{versions}
-unfoldable pub use Rattle.ucl_live_runs.specs.Mended.{left_out_after}
-use Rattle.ucl_live_runs.specs.MendTheorems.{events_of}
-unfoldable pub use Rattle.ucl_live_runs.specs.MendTheorems.{LaterEventsGoOn, MendsAreLegal, OtherMatchesStay, WholeHistoriesAreKept}
+unfoldable pub use Rattle.ucl_mends.specs.Mended.{left_out_after}
+use Rattle.ucl_mends.specs.MendTheorems.{events_of}
+unfoldable pub use Rattle.ucl_mends.specs.MendTheorems.{LaterEventsGoOn, MendsAreLegal, OtherMatchesStay, WholeHistoriesAreKept}
 
 -- the history of events with more behind them is the history of the first, then that of the others
 pub history-more : (events more : List StandingEvent) → history_in (events ++ more) ≡ history_in events ++ history_in more

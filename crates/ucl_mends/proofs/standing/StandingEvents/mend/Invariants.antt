@@ -1,7 +1,7 @@
-use Rattle.ucl_live_runs.proofs.Common.{◌≤◌}
+use Rattle.ucl_mends.proofs.Common.{◌≤◌}
 use Rattle.std.specs.Vec.{vec_capacity}
-use Rattle.ucl_live_runs.proofs.Mends.{IsInPlace}
-use Rattle.ucl_live_runs.proofs.standing.StandingEvents.mend.Given as goal
+use Rattle.ucl_mends.proofs.Mends.{IsInPlace}
+use Rattle.ucl_mends.proofs.standing.StandingEvents.mend.Given as goal
 
 abbrev pub invariant-loop-at : goal.invariant-loop-at
 invariant-loop-at l = record {

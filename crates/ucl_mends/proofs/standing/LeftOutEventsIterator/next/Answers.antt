@@ -1,6 +1,6 @@
-use Rattle.ucl_live_runs.proofs.Common.{ap, arith, get_or, length, sym, take, ◌∙◌, ◌≤◌}
-use Rattle.ucl_live_runs.proofs.Mends.{all-told, not-left, so-far-more, told-none, told-one}
-use Rattle.ucl_live_runs.proofs.standing.LeftOutEventsIterator.next.Goals as goal
+use Rattle.ucl_mends.proofs.Common.{ap, arith, get_or, length, sym, take, ◌∙◌, ◌≤◌}
+use Rattle.ucl_mends.proofs.Mends.{all-told, not-left, so-far-more, told-none, told-one}
+use Rattle.ucl_mends.proofs.standing.LeftOutEventsIterator.next.Goals as goal
 
 pub returns-in-Refused-clause-steps : goal.returns-in-Refused-clause-steps
 returns-in-Refused-clause-steps c =

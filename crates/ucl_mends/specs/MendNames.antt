@@ -1,7 +1,7 @@
 -- The number and the name of each refusal of a mend.
 use Rattle.std.specs.Prelude.{ℕ, List, codes}
-use Rattle.ucl_live_runs.specs.declared.mend_refusal.MendRefusal.{MendRefusal}
-use Rattle.ucl_live_runs.specs.declared.mend_refusal.MendRefusal.TheVariants.{LastEdition, NoEvent}
+use Rattle.ucl_mends.specs.declared.mend_refusal.MendRefusal.{MendRefusal}
+use Rattle.ucl_mends.specs.declared.mend_refusal.MendRefusal.TheVariants.{LastEdition, NoEvent}
 
 -- the number that stands for a refusal of a mend
 abbrev pub mend_refusal_code : MendRefusal → ℕ

@@ -1,6 +1,6 @@
-use Rattle.ucl_live_runs.proofs.Common.{arith}
-use Rattle.ucl_live_runs.proofs.Mends.{few}
-use Rattle.ucl_live_runs.proofs.standing.StandingEvents.version.Goals as goal
+use Rattle.ucl_mends.proofs.Common.{arith}
+use Rattle.ucl_mends.proofs.Mends.{few}
+use Rattle.ucl_mends.proofs.standing.StandingEvents.version.Goals as goal
 
 pub overflow_cast-result : goal.overflow_cast-result
 overflow_cast-result c = let most = few c.self.inside.events.items c.self.invariant.legal in omega arith

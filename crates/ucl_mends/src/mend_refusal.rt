@@ -1,7 +1,7 @@
 //! Why a mend is refused.
 
 ghost use Rattle.std.specs.Prelude.{◌≡◌, Some};
-ghost use Rattle.ucl_live_runs.specs.MendNames.{mend_refusal_code, mend_refusal_name};
+ghost use Rattle.ucl_mends.specs.MendNames.{mend_refusal_code, mend_refusal_name};
 
 use std::{error, fmt};
 

@@ -1,8 +1,8 @@
-use Rattle.ucl_live_runs.proofs.Common.{StandingEvent, ap, arith, kept_by, length, ◌<◌}
+use Rattle.ucl_mends.proofs.Common.{StandingEvent, ap, arith, kept_by, length, ◌<◌}
 use Rattle.std.specs.Prelude.{List}
-use Rattle.ucl_live_runs.proofs.Mends.{in-place-kept, in-place-left}
-use Rattle.ucl_live_runs.proofs.standing.StandingEvents.mend.Goals as goal
-use Rattle.ucl_live_runs.proofs.standing.StandingEvents.mend.Goals.{in-Kept, in-Named, in-Refused}
+use Rattle.ucl_mends.proofs.Mends.{in-place-kept, in-place-left}
+use Rattle.ucl_mends.proofs.standing.StandingEvents.mend.Goals as goal
+use Rattle.ucl_mends.proofs.standing.StandingEvents.mend.Goals.{in-Kept, in-Named, in-Refused}
 
 -- a mend in place goes on with one event more, whatever becomes of it
 pub loop-at-preserved : goal.loop-at-preserved

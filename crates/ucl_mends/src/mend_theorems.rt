@@ -1,6 +1,6 @@
 //! Theorems on all mends. The functions do nothing: each is there for its contract.
 
-ghost use Rattle.ucl_live_runs.specs.MendTheorems.{LaterEventsGoOn, MendsAreLegal, OtherMatchesStay, WholeHistoriesAreKept};
+ghost use Rattle.ucl_mends.specs.MendTheorems.{LaterEventsGoOn, MendsAreLegal, OtherMatchesStay, WholeHistoriesAreKept};
 
 /// What a mend of a legal history keeps is a legal history.
 #[tactic(auto, using(crate::proofs::Mends::mends_legal))]

@@ -1,9 +1,9 @@
 -- The events that stand on a board, as the code keeps them, and the board that a mend makes of them event by event.
 use Rattle.std.specs.Prelude.{◌≡◌, ℕ, ◌≤◌, List, [], ◌∷◌, ◌++◌}
 use Rattle.ucl_board.specs.History.{IsLegal, board_of}
-use Rattle.ucl_live_runs.specs.declared.standing.StandingEvent.{StandingEvent}
-use Rattle.ucl_live_runs.specs.declared.standing.Fate.{Fate}
-use Rattle.ucl_live_runs.specs.Mended.{fate_of, history_in, mended}
+use Rattle.ucl_mends.specs.declared.standing.StandingEvent.{StandingEvent}
+use Rattle.ucl_mends.specs.declared.standing.Fate.{Fate}
+use Rattle.ucl_mends.specs.Mended.{fate_of, history_in, mended}
 
 -- these events are a legal history, with room for 49,140 in the memory that holds them, and the board is that of this history
 pub record AreStanding (events : List StandingEvent) (room : ℕ) (board : List ℕ) : Type 0 where

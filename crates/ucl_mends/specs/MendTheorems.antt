@@ -2,8 +2,8 @@
 use Rattle.std.specs.Prelude.{◌≡◌, ◌≢◌, ℕ, ◌==◌, List, [], ◌++◌, All, filter}
 use mathlib.Core.List.{IsPrefix}
 use Rattle.ucl_board.specs.History.{IsLegal}
-use Rattle.ucl_live_runs.specs.declared.standing.StandingEvent.{StandingEvent}
-use Rattle.ucl_live_runs.specs.Mended.{history_in, left_out, mended}
+use Rattle.ucl_mends.specs.declared.standing.StandingEvent.{StandingEvent}
+use Rattle.ucl_mends.specs.Mended.{history_in, left_out, mended}
 
 -- the events of one match among these
 abbrev pub events_of : ℕ → List StandingEvent → List StandingEvent

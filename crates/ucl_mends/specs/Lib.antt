@@ -1,0 +1,4 @@
+pub mod Mended
+pub mod MendNames
+pub mod MendTheorems
+pub mod Standing
