@@ -22,3 +22,6 @@ returns-clause-linearizable c = linearizable_trace c.args.cast.now c.args.steps.
 
 pub returns-clause-words : goal.returns-clause-words
 returns-clause-words c = words_of_trace c.args.cast.now c.args.steps.now (state_of c.loop-at.machine) c.into_trace.result (all_taken c) c.into_trace.ensures
+
+pub returns-then-not-branch-clause-not_enabled : goal.returns-then-not-branch-clause-not_enabled
+returns-then-not-branch-clause-not_enabled c at is = search (arith, slice_get-get_or)
