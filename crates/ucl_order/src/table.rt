@@ -61,7 +61,6 @@ fn row_with(place: u8, slot: u8, mark: Mark, results: &Results) -> Row
 }
 
 /// Returns the row at this place of the order, 1 to 4. Marks are by place; results are by slot, and count matches in play and finished.
-#[tactic(auto, unfolding(crate::specs::Results::totals))]
 fn row_at(place: u8, order: &[u8; 4], marks: &[Mark; 4], results: &[Results; 4]) -> Row
     requires at_least { 1 ≤ place }
     requires at_most { place ≤ 4 }

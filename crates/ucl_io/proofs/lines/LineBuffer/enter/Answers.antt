@@ -1,4 +1,5 @@
 use Rattle.std.proofs.Common.{refl, ◌∙◌, arith}
+use Rattle.std.proofs.lemmas.List.{length-take}
 use Rattle.std.proofs.lemmas.Result.{err_from_is_err_and}
 use Rattle.std.specs.Prelude.{Ok, Err}
 use Rattle.ucl_io.proofs.Turns.{entered_none, line_answered, line_short, rest_answered, rest_kept, row_below}
@@ -36,3 +37,6 @@ pub returns-in_err-flush-in-None-clause-answered : goal.returns-in_err-flush-in-
 returns-in_err-flush-in-None-clause-answered g c =
     let p = err_from_is_err_and c.from_residual-in_err-flush-in-None.result c.from_residual-in_err-flush-in-None.ensures.1 in
     rw (p.1, p.2) (rest_answered c.lines.invariant.so_far c.requires.short (c.in-None.ensures.none refl) _ (Err _) refl refl c.in_err-flush-in-None.ensures.put)
+
+pub returns-in-None-clause-short : goal.returns-in-None-clause-short
+returns-in-None-clause-short g c = rw (c.keep.ensures, c.lines.invariant.cap, length-take) (omega arith)
