@@ -92,6 +92,7 @@ impl Kind {
     }
 
     /// Returns the kind of event with this name, such as `goal-home`, or `None` if no kind has it.
+    #[tactic(auto, unfolding(crate::specs::Names::kind_named))]
     pub fn from_name(name: &[u8]) -> Option<Kind>
         ensures { result ≡ kind_named name.now }
     {
