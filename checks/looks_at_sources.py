@@ -39,8 +39,36 @@ STEPS = {
 }
 STEPS["ucl_words"].update({name[: -len("_now")]: steps for name, steps in STEPS["ucl_words"].items()})
 STEPS["ucl_live_board"] = {"settle": ""}
+# Those of C take none of their own, beside those of the board's call.
+STEPS["ucl_c"] = dict.fromkeys("open split_off enlist_another report number read with_held let_go uclboard_open uclboard_next_word".split(), "")
+STEPS["ucl_c"].update(dict.fromkeys([f"uclboard_pass_{name}" for name in ("split", "enlist", "report", "number", "read", "drop")], ""))
+STEPS["ucl_c"]["uclboard_script"] = "for"
+# What else the code of the boards and of C calls, but for its own functions and those of the crates below; and its loops and closures, in the order of their texts.
+# A call that is not here could take turns of its own, as `for_each` does.
+CALLS = {
+    "ucl_word": "as_slice copied default is_ok", "ucl_board": "default", "ucl_live_board": "", "ucl_pass": "copy_from_slice forever is_ok ruled",
+    "ucl_words": "compare_exchange compare_exchange_with copy_from_slice join_seat load split_seat",
+    "ucl_c": "as_bytes as_mut copy_from_slice drop enumerate from_raw into_raw_with_allocator iter len null_mut ok_or try_clone try_from unwrap_or",
+}
+TURNS = {
+    "ucl_board": "for i in 0..12u8, for word in &self.words",
+    "ucl_pass": "for _ in rt.forever(), for _ in rt.forever()",
+    "ucl_words": "for i in 0..12, for checked in 0..12, loop, while known < MAX_REPORTERS",
+    "ucl_c": "|held| held.split_off(alloc), |held| held.enlist_another(alloc), |held| held.report(&call), |held| held.number(), |held| held.read(), "
+             "for (i, event) in events.iter().enumerate()",
+}
+CALLED = re.compile(r"(?<!fn )\b(?!(?:for|while|loop|match|if|in|return|call)\b)([a-z]\w*)(?:::<[^()]*?>)?\(")
+TURN = re.compile(
+    r"\b((?:for\b(?! *<)[^{};]* in |while\b)[^{};]*[^{}; ]|loop)(?= *\{)"
+    r"|(?:[(,={;>&\[:]|\b(?:move|mut|return|else))\s*(\|[^|]*\|[^;{]*?\)?)(?=[,;{]|\)[,;)])"
+)
+# Calls of another type's function that has the name of the one that makes them.
+NAMESAKES = re.compile(r"\bself\.cell\s*\.\w+|\bboard\.report\b(?=\(pass\.number, call\))|\bWordBoard::open\b|\bself\.at\.is_null\b")
+# Leave to wait, where a call has it: a name for it in what it is given, and that it is handed on to a call of a board.
+LEAVE = re.compile(r"\b_?rt\b")
+PASSED_ON = {"ucl_words": re.compile(r"\b_rt: &R\b"), "ucl_live_board": re.compile(r"\brt: &R\b|\bboard\.\w+\(rt, ")}
 TAKEN = re.compile(
-    r"\b((?:load|store|swap|fetch|compare_exchange|split|join)(?:_\w+)?::<(?!(?:Brand|Kind|Way)\b)\w+|(?:for|while|loop)\b(?! *\())|\b(\w+)(?:::<[^()]*?>)?\("
+    r"\b((?:load|store|swap|fetch|compare_exchange|split|join)(?:_\w+)?::<(?!(?:Brand|Kind|Way)\b)\w+|(?:for|while|loop)\b)|\b(\w+)(?:::<[^()]*?>)?\("
 )
 # What boards, passes and handles of C have, and what that is of.
 PARTS = """struct WordBoard { table: Table, }
@@ -65,7 +93,7 @@ SHARES = re.compile(
     r"|/ucl_c/.*: +let board = Arc::(?:new\(alloc, board\)|try_clone\(board\))\?;$"
     r"|/ucl_words/.*\batomic_table::|/ucl_theorems/.*: use atomic_table::TableRule;$|/ucl_pass/.*: use (?:atomic_table|crossbeam_utils::(?:atomic::seq_cell|rule))::"
 )
-# What types of boards and readings implement, derived and behind a bar written, and no more: so no equality and no load is of its own kind.
+# What types of boards, tables, inputs and traces implement, derived and behind a bar written, and no more: so no equality and no load is of its own kind.
 PLAIN = "Clone Copy Debug Eq PartialEq"
 TRAITS = {
     "ucl_word": {
@@ -73,6 +101,18 @@ TRAITS = {
         **dict.fromkeys(["MatchRecord", "State"], "Clone Copy Debug Default Eq PartialEq"),
         **dict.fromkeys(["MatchNo", "ReporterNo"], f"{PLAIN} | Model"), "BadWord": "Clone Copy Debug Eq Error PartialEq",
         "OutOfMemory": "Clone Copy Debug Eq Error PartialEq | From<AllocError> From<AllocFailed<T>>", "Refusal": f"{PLAIN} | error::Error fmt::Display",
+    },
+    "ucl_order": {
+        **dict.fromkeys(["Appearance", "Mark", "PointBounds", "Profile", "Results", "Row"], PLAIN), **dict.fromkeys(["Match", "Score"], "Clone Copy Debug Default Eq PartialEq"),
+        "BadRoster": "Clone Copy Debug Eq Error PartialEq", **dict.fromkeys(["Club", "Member"], "Debug Drop"), "LentClub": "Clone Copy", "Roster": "Debug Drop | Model",
+    },
+    "ucl_screen": {
+        **dict.fromkeys(["FirstRow", "Four", "RowFields"], "Clone Copy"), "FaultLine": "Clone Copy | fmt::Display", "NightEvent": PLAIN, "Rows": "Drop",
+        **dict.fromkeys(["Night", "Sheet"], "Debug Drop"), "InputFault": f"{PLAIN} | From<AllocError> From<AllocFailed<T>> error::Error fmt::Display",
+    },
+    "ucl_steps": {
+        **dict.fromkeys(["Call", "CallRecord", "Caller", "Cast", "Reply", "Step"], PLAIN), "Held": "Clone Copy", "Machine": "Drop", "Trace": "Debug Drop",
+        "StepFault": "Clone Copy Debug Eq Error PartialEq | From<AllocError>",
     },
     "ucl_board": {"BadWordAt": "Clone Copy Debug Eq Error PartialEq", "Board": f"{PLAIN} | Model", "Entry": PLAIN, "Reading": PLAIN},
     "ucl_live_board": {"Brand": "| Asking", "Strangers": "Clone Copy Debug Eq Error PartialEq", "TooManyReporters": "Drop Error", "View": "| Model"},
@@ -107,6 +147,26 @@ DEVICES = [
     "if self.has_failed { return None; } if text.is_empty() { return Some(0); } "
     "let given = match self.writer.write(text) { Ok(0) | Err(_) => None, Ok(count) => Some(count), }; self.has_failed = given.is_none(); given }",
 ]
+# Crates of rules, and how values are put in an order: a sort, an exchange of two, the lower and the higher of two, an item that moves within its list.
+RULES = ["ucl_word", "ucl_board", "ucl_order", "ucl_screen", "ucl_mends", "ucl_steps"]
+SORTS = re.compile(
+    r"[^;{}]*(?:\w*sort\w*\(|(?<!fn )\b(?:swap|replace|rotate_\w+|min\w*|max\w*|reverse)\((?!\*caller\))"
+    r"|\blet \((\w+), (\w+)\) = \w+\((?:&\w* ?)*(?:\1, (?:&\w* ?)*\2|\2, (?:&\w* ?)*\1)\)|\b(\w+)\[[^]]+\] = \3\[|\(\w+\[[^]]+\], \w+\[[^]]+\]\) =)[^;]*;"
+)
+SORTED = ["clubs.sort_unstable();"]
+# Where a night tells that there is no thread: a worker's did not start.
+NO_THREAD = re.compile(
+    r"let started = scope\.spawn_with\( promise, move \|\| (?:(?!started)[^;])*?, \); started\.map_err\(\|_\| RunFault::NoThread\)"
+    r"|match \(reporter_1, reporter_2, reader_1, reader_2\) {"
+    r" \(Ok\(\w+\), Ok\(\w+\), Ok\(\w+\), Ok\(\w+\)\) => Ok\(Workers {[^{}]*}\), _ => Err\(RunFault::NoThread\), }"
+)
+# What the programs for users do: one call, over the words of the command line and the standard streams, whose result is the exit status.
+MAIN = re.compile(
+    r"fn main\(rt: HostRuntime\) -> ExitCode { let alloc = rt\.alloc\(\); "
+    r"(?:let (?:mut )?\w+ = (?:LoggedIo::new\()?(?:(?:FromRead|ToWrite)::new\(rt\.std\w+\(\)\)(?:, |\)?;) ?)+)+"
+    r"ExitCode::from\(run_(?:words|live|follow)\( ?(?:&rt, )?alloc, words_of\(&rt, alloc\), "
+    r"(?:\|\| WordBoard::open\(&rt, alloc\), )?(?:(?:&mut )?\w+,? ?)+\)\) }"
+)
 HANDLES = "e3846fb4d06c"
 DEFINED = re.compile(r"^ *(?:abbrev pub|unfoldable pub|pub record|pub data) (\S+)", re.M)
 # Names that definitions of two files have, and that stand for one thing of two kinds, as the words of either board.
@@ -161,17 +221,51 @@ def steps_in(name, bodies, callers=()):
             yield from steps_in(called, bodies, (name, *callers))
 
 
+def bodies_of(top, crate):
+    """The texts of a crate's functions, with no comment, by their names."""
+    bodies = collections.defaultdict(str)
+    for it in sources.functions_of(top / "crates" / crate):
+        lines = (top / "crates" / crate / it.path).read_text().split("\n")
+        bodies[it.name] += re.sub(r"//[^\n]*", "", "\n".join(lines[it.body : it.last + 1]))
+    return bodies
+
+
 def calls_take_their_steps(top):
     """Each call of a board takes the steps that are listed of it, and no other: so a bound counts each, or the page names it."""
     found = []
     for crate, listed in STEPS.items():
-        bodies = collections.defaultdict(str)
-        for it in sources.functions_of(top / "crates" / crate):
-            lines = (top / "crates" / crate / it.path).read_text().split("\n")
-            bodies[it.name] += re.sub(r"//[^\n]*", "", "\n".join(lines[it.body : it.last + 1]))
+        bodies = bodies_of(top, crate)
         told = {name: ", ".join(steps_in(name, bodies)) for name in bodies}
         found += [f"{crate}: `{name}` takes the steps {told.get(name)}" for name, steps in listed.items() if told.get(name) != steps]
     return found
+
+
+def reached(name, called):
+    """The functions that a function calls, that these call, and so on."""
+    seen, waiting = set(), [name]
+    while waiting:
+        more = called.get(waiting.pop(), set()) - seen
+        seen |= more
+        waiting += more
+    return seen
+
+
+def calls_take_no_other_turns(top):
+    """No code of a board or of C idles: its loops, closures and calls of others are listed, and no function calls itself."""
+    found, uses = [], sources.crates_of(top)
+    for crate, lent in CALLS.items():
+        own = {it.name for used in [crate, *sources.below(uses, crate)] for it in sources.functions_of(top / "crates" / used)}
+        called = {name: {*CALLED.findall(NAMESAKES.sub("", body))} for name, body in bodies_of(top, crate).items()}
+        found += [f"{crate}: `{name}` calls `{it}`" for name, calls in called.items() for it in sorted(calls - own - {*lent.split()})]
+        found += [f"{crate}: `{name}` calls itself" for name in called if name in reached(name, called)]
+        turns = ", ".join(" ".join("".join(turn).split()) for turn in TURN.findall(code_of(top, crate)))
+        found += [f"{crate}: its turns are {turns}"] if turns != TURNS.get(crate, "") else []
+    return found
+
+
+def leave_to_wait_is_passed_on(top):
+    """No call of the word board has a name for its leave to wait, and `settle` only passes its own on to calls of its board."""
+    return [f"{crate}: {it}" for crate, form in PASSED_ON.items() for it in LEAVE.findall(form.sub("", code_of(top, crate)))]
 
 
 def code_of(top, crate):
@@ -186,7 +280,7 @@ def devices_pass_on(top):
 
 
 def traits_are_listed(top):
-    """What the types of the boards and of readings implement is listed, however it is written; and no trait goes by another name."""
+    """What the types of the boards, of tables and of inputs implement is listed, however it is written; and no trait goes by another name."""
     found = []
     for crate, known in TRAITS.items():
         text = code_of(top, crate)
@@ -199,6 +293,24 @@ def traits_are_listed(top):
         found += [f"{crate}: `{name}` implements {told.get(name, 'nothing')}" for name in sorted({*told, *known}) if told.get(name) != known.get(name)]
         found += [f"{crate}: {' '.join(line.split())}" for line in ALIAS.findall(text)]
     return found
+
+
+def one_sort_orders(top):
+    """In crates of rules nothing is put in an order but the clubs of a group, by std's sort."""
+    found = [(crate, it.group().strip()) for crate in RULES for it in SORTS.finditer(" ".join(code_of(top, crate).split()))]
+    return [] if found == [("ucl_order", line) for line in SORTED] else [f"{crate}: {line}" for crate, line in found] or ["no sort"]
+
+
+def no_thread_is_told_of_threads(top):
+    """A night says that there is no thread only where a worker's did not start."""
+    rest, count = NO_THREAD.subn("", " ".join(code_of(top, "ucl_runs").split()))
+    found = re.findall(r"[^;{}]*(?<!RunFault\.)NoThread[^;{}]*", rest)
+    return found + ([] if count == 3 else [f"it is told of threads {count} times"])
+
+
+def programs_are_one_call(top):
+    """The `main` of each program for users makes one call, and ends with its result."""
+    return [name for name in ("ucl_night", "ucl_live", "ucl_follow") if not MAIN.search(" ".join(code_of(top, name).split()))]
 
 
 def nothing_acts_when_let_go(top):
@@ -321,25 +433,16 @@ def scripts_are_clean(top):
     return [line.replace(f"{top}/", "") for line in ran.stdout.split("\n") if line]
 
 
-def python_is_typed(top):
-    """mypy finds nothing in the package and in the examples in Python, and Black would set no line otherwise; where one is missing, that is told."""
-    found = []
-    folders = "hall", "examples/python"
-    for tool, words in ("mypy", ["--strict", "--no-error-summary", "--config-file", "mypy.ini"]), ("black", ["--quiet", "--check", "--diff", "--line-length", "100"]):
-        if not shutil.which(tool):
-            print(f"not looked at: {tool} is not installed")
-            continue
-        for folder in folders:
-            ran = subprocess.run([tool, *words, folder], cwd=top, stdout=subprocess.PIPE, stderr=subprocess.STDOUT, universal_newlines=True)
-            found += ran.stdout.splitlines()[:20] if ran.returncode else []
-    return found
-
-
 LOOKS = [
     ("all go to the boards through passes", boards_go_through_passes),
     ("the kinds of step of the boards", kinds_of_step),
     ("what steps each call of a board takes", calls_take_their_steps),
-    ("what the types of boards and readings implement is listed", traits_are_listed),
+    ("what loops, closures and calls of others the code of boards has", calls_take_no_other_turns),
+    ("leave to wait is not used, or passed on", leave_to_wait_is_passed_on),
+    ("what the types of boards and tables implement is listed", traits_are_listed),
+    ("std's sort orders the clubs, and nothing else is ordered", one_sort_orders),
+    ("no thread is told of threads alone", no_thread_is_told_of_threads),
+    ("programs are one call", programs_are_one_call),
     ("nothing is done where a value is let go", nothing_acts_when_let_go),
     ("boards, passes and handles hold their parts alone", boards_hold_words_alone),
     ("a source's calls are listed where they are made", calls_are_listed_once),
@@ -351,5 +454,4 @@ LOOKS = [
     ("each crate uses what it stands on", crates_use_what_they_stand_on),
     ("lines of proofs and lemmas are short", proofs_are_short),
     ("shell scripts are clean", scripts_are_clean),
-    ("the package and the examples in Python are typed, and set by Black", python_is_typed),
 ]

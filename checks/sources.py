@@ -7,6 +7,7 @@ A wrong body is a file crates/CRATE/must-fail/NAME.edit: lines `breaks: FUNCTION
 Each text is one line, and each old one stands in that file exactly once.
 """
 
+import itertools
 import re
 import subprocess
 import typing
@@ -15,14 +16,16 @@ FUNCTION = re.compile(r'^( *)(?:(pub) |pub\(\w+\) )?(?:const )?(?:unsafe )?(exte
 BLOCK = re.compile(r"^(?:pub )?(trait|impl)\b")
 TYPE = re.compile(r"^(?:pub(?:\(\w+\))? )?(?:struct|enum) (\w+)", re.M)
 LABEL = re.compile(r"^\s*ensures\s+(?:(\w+)\s+)?\{", re.M)
+CLAUSE = re.compile(r"^\s*(ensures|requires)\s+(?:(\w+)\s+)?\{", re.M)
 RECORD = re.compile(r"^(?:  )?pub record (\w+)\b.*\n((?:  .*\n)*)", re.M)
-FIELD = re.compile(r"^ {2,4}pub (\w+) : ", re.M)
+DEFINED = re.compile(r"^ *(?:abbrev pub|unfoldable pub|pub record|pub data) (\S+)")
 DISPLAY = "Display"
+UNPROVED = re.compile(r"_tests$|_bench|_hostile|_example$")
 
 
 class Function(typing.NamedTuple):
     """A function: its file, its name as the prover has it below the crate, the trait and the type that it is of, its own name, whether others
-    may call it, its text up to the body, and the first and last line of that."""
+    may call it, what it says of itself, its text up to the body, and the first and last line of that."""
 
     path: str
     symbol: str
@@ -30,6 +33,7 @@ class Function(typing.NamedTuple):
     owner: typing.Optional[str]
     name: str
     is_public: bool
+    says: str
     head: str
     body: int
     last: int
@@ -42,6 +46,26 @@ class Function(typing.NamedTuple):
     def labels(self):
         """The labels of its clauses; one that has none counts as the empty one. A text has clauses of its trait."""
         return [] if self.trait == DISPLAY else list(dict.fromkeys(LABEL.findall(self.head)))
+
+    @property
+    def clauses(self):
+        """Each clause: the word that it begins with, its label, and its text."""
+        return [(it[1], it[2] or "", " ".join(enclosed(self.head, it.end()).split())) for it in CLAUSE.finditer(self.head)]
+
+    @property
+    def is_law(self):
+        """It does nothing, and is there for its contract."""
+        return self.head.endswith("{}")
+
+
+def enclosed(text, start):
+    """What stands from here to the bracket that closes the one before."""
+    depth = 1
+    for at in range(start, len(text)):
+        depth += {"{": 1, "}": -1}.get(text[at], 0)
+        if not depth:
+            return text[start:at]
+    return text[start:]
 
 
 def module_of(path):
@@ -73,6 +97,17 @@ def body_of(lines, start, indent):
     return body, next((at for at in range(body, len(lines)) if lines[at] == indent + "}"), len(lines) - 1)
 
 
+def said_above(lines, at):
+    """What a function says of itself in the lines above it, without examples: paragraphs, with an empty line between them."""
+    start = at
+    while start and lines[start - 1].strip().startswith(("///", "#[", "using", "crate::", ")]")):
+        start -= 1
+    said = "\n".join(line.strip()[4:] for line in lines[start:at] if line.strip().startswith("///"))
+    said = re.sub(r"^```.*?^```$|^# Examples$", "", said, flags=re.M | re.S)
+    said = re.sub(r"^# (\w+)\n+", r"\1: ", said, flags=re.M)
+    return "\n\n".join(" ".join(part.split()) for part in re.split(r"\n{2,}", said) if part.strip())
+
+
 def functions_in(path, text, homes):
     """The functions of a file, but those inside of others. A method that is of no trait is named by the modules of its type, its home."""
     lines, block, after = text.split("\n"), None, 0
@@ -88,7 +123,7 @@ def functions_in(path, text, homes):
             types = [owner + trait + more if trait and trait != owner else owner] if owner else []
             home = module_of(path) if trait else homes.get(owner, module_of(path))
             symbol, is_public = "::".join([*home, *types, head[4]]), bool(head[2] or head[3])
-            yield Function(path, symbol, trait, owner, head[4], is_public, "\n".join(lines[at : body + 1]), body, after)
+            yield Function(path, symbol, trait, owner, head[4], is_public, said_above(lines, at), "\n".join(lines[at : body + 1]), body, after)
 
 
 def functions_of(crate):
@@ -98,10 +133,54 @@ def functions_of(crate):
     return [it for path, text in texts.items() for it in functions_in(path, text, homes)]
 
 
-def records_of(top):
-    """The fields of each record of the definitions, by its name."""
-    texts = [path.read_text() for path in sorted(top.glob("crates/*/specs/**/*.antt"))]
-    return {name: set(FIELD.findall(body)) for text in texts for name, body in RECORD.findall(text)}
+def callable_functions(crate):
+    """The functions that a caller can name: those that say `pub`, exports, those of public traits and types, and laws, which have an empty body."""
+    if not (crate / "src/lib.rt").exists() or UNPROVED.search(crate.name):
+        return []
+    text = (crate / "src/lib.rt").read_text()
+    names = {name.strip() for many, one in re.findall(r"^pub use (?:\w+::)*(?:\{([^}]*)\}|(\w+));", text, re.M) for name in (many or one).split(",")}
+    modules = {*re.findall(r"^pub mod (\w+);", text, re.M)}
+    is_named = lambda it: it.name in names or it.path.split("/")[-1][:-3] in modules or 'extern "C"' in it.head or it.is_law
+    return [it for it in functions_of(crate) if (it.owner in names and (it.is_public or it.trait) if it.owner else it.is_public and is_named(it))]
+
+
+def promises_of(top, name):
+    """Each function of a crate that a caller can name, with its clauses. A method without clauses of its own has those of its trait."""
+    used = [it for crate in [name, *below(crates_of(top), name)] for it in functions_of(top / "crates" / crate)]
+    of_traits = {(it.owner, it.name): it.clauses for it in used if it.trait == it.owner}
+    return [(it, it.clauses or of_traits.get((it.trait, it.name), [])) for it in callable_functions(top / "crates" / name)]
+
+
+def comment_of(lines):
+    """The comment that these lines begin with."""
+    return " ".join(line.strip().lstrip("- ") for line in itertools.takewhile(lambda line: line.strip().startswith("--"), lines))
+
+
+def definitions_in(path):
+    """The definitions of a file, each with the comment above it."""
+    return [(name, says) for name, says, _ in defined_in(path)]
+
+
+def defined_in(path):
+    """The definitions of a file, each with the comment above it and its text."""
+    lines, start = path.read_text().splitlines(), 0
+    found = []
+    for at, line in enumerate(lines):
+        name = DEFINED.match(line)
+        if name:
+            found.append((name[1], comment_of(lines[start:at]), at))
+        start = start if line.strip().startswith("--") else at + 1
+    ends = [at for _, _, at in found[1:]] + [len(lines)]
+    return [(name, says, "\n".join(line for line in lines[at:end] if not line.strip().startswith("--"))) for (name, says, at), end in zip(found, ends)]
+
+
+def fields_in(path):
+    """The records of a file, each with its fields: the comment above it, if it has one, its label, and its text."""
+    for head, body in RECORD.findall(path.read_text()):
+        parts = re.split(r"^ {2,4}pub (\w+) :", body, flags=re.M)
+        said = [comment_of(re.search(r"(?:^ *--.*\n?)*\Z", part, re.M)[0].splitlines()) for part in parts[0::2]]
+        texts = [" ".join(re.sub(r"^ *--.*", "", part, flags=re.M).split()) for part in parts[2::2]]
+        yield head, list(zip(said, parts[1::2], texts))
 
 
 def crates_of(top):

@@ -33,7 +33,8 @@ class Match:
 
     def members(self, game):
         """The match with this number as it stands, in JSON."""
-        members = {"match": game, "number": self.number, "state": STATES[self.state], "reporter": self.reporter}
+        home, away = FIXTURES[game - 1]
+        members = {"match": game, "home": home, "away": away, "number": self.number, "state": STATES[self.state], "reporter": self.reporter}
         return {**members, "score": self.goals, "yellows": self.yellows, "expulsions": self.expulsions}
 
     def refusal(self, expected, word):
@@ -140,29 +141,40 @@ def classes(clubs, key):
     return [[club for club in clubs if key(club) == k] for k in keys]
 
 
-def settled(matches, clubs, coefficients, away_counts):
+def among(matches, clubs):
+    """The matches between these clubs."""
+    return [it for it in matches if it[0][0] in clubs and it[0][1] in clubs]
+
+
+def overall(matches, club, coefficients):
+    """What decides where head to head does not: all matches of the club, its coefficient, its slot."""
+    seen = list(results(matches, club))
+    away = [it for it in seen if it[0]]
+    wins = [it for it in seen if it[1] > it[2]]
+    of_matches = triple(matches, club)[1:] + (sum(it[1] for it in away), len(wins), sum(it[1] > it[2] for it in away), -sum(it[3] for it in seen))
+    return of_matches + (coefficients[club - 1], -club)
+
+
+def settled(matches, clubs, coefficients, away_counts=False):
     """Clubs that are level on points, in order."""
     if len(clubs) < 2:
         return clubs
-    among = [it for it in matches if it[0][0] in clubs and it[0][1] in clubs]
+    ties = among(matches, clubs)
 
     def head_to_head(club):
-        away = sum(ours for is_away, ours, _, _ in results(among, club) if is_away)
-        return triple(among, club) + ((away,) if away_counts else ())
-
-    def overall(club):
-        seen = list(results(matches, club))
-        away = [it for it in seen if it[0]]
-        wins = [it for it in seen if it[1] > it[2]]
-        return (
-            triple(matches, club)[1:] + (sum(it[1] for it in away), len(wins), sum(it[1] > it[2] for it in away))
-            + (-sum(it[3] for it in seen), coefficients[club - 1], -club)
-        )
+        away = sum(ours for is_away, ours, _, _ in results(ties, club) if is_away)
+        return triple(ties, club) + ((away,) if away_counts else ())
 
     parts = classes(clubs, head_to_head)
     if len(parts) == 1:
-        return sorted(clubs, key=overall, reverse=True)
+        return sorted(clubs, key=lambda club: overall(matches, club, coefficients), reverse=True)
     return [club for part in parts for club in settled(matches, part, coefficients, away_counts)]
+
+
+def order(matches, coefficients, away_counts=False):
+    """The clubs in order, where these matches have begun."""
+    level = classes([1, 2, 3, 4], lambda club: points(matches, club))
+    return [club for part in level for club in settled(matches, part, coefficients, away_counts)]
 
 
 def places(matches, roster, away_counts):
@@ -170,17 +182,16 @@ def places(matches, roster, away_counts):
     games = list(zip(FIXTURES, matches))
     begun = [it for it in games if it[1].state != SCHEDULED]
     ended = [it for it in games if it[1].state == FINISHED]
-    coefficients = [coefficient for _, coefficient in roster]
-    order = [c for part in classes([1, 2, 3, 4], lambda c: points(begun, c)) for c in settled(begun, part, coefficients, away_counts)]
-    sure = {c: points(ended, c) for c in order}
-    reach = {c: sure[c] + 3 * (6 - len(list(results(ended, c)))) for c in order}
-    for place, club in enumerate(order, 1):
+    clubs = order(begun, [coefficient for _, coefficient in roster], away_counts)
+    sure = {c: points(ended, c) for c in clubs}
+    reach = {c: sure[c] + 3 * (6 - len(list(results(ended, c)))) for c in clubs}
+    for place, club in enumerate(clubs, 1):
         if len(ended) == 12:
             mark = "+" if place <= 2 else "-"
-        elif sum(reach[other] >= sure[club] for other in order if other != club) <= 1:
+        elif sum(reach[other] >= sure[club] for other in clubs if other != club) <= 1:
             mark = "+"
         else:
-            mark = "-" if sum(sure[other] > reach[club] for other in order if other != club) >= 2 else ""
+            mark = "-" if sum(sure[other] > reach[club] for other in clubs if other != club) >= 2 else ""
         seen = list(results(begun, club))
         won, lost = sum(it[1] > it[2] for it in seen), sum(it[1] < it[2] for it in seen)
         ours, theirs = sum(it[1] for it in seen), sum(it[2] for it in seen)
@@ -380,7 +391,7 @@ class Style:
         return screen(matches, roster, self.group, self.order != "uefa")
 
     def moment(self, matches, roster):
-        """The members by which a line of JSON stands for itself."""
+        """The members by which a screen in JSON stands for itself."""
         members = {"group": self.group, "order": self.order, "edition": self.edition, "version": version(matches)}
         return {**members, "clubs": clubs_of(roster), "words": [m.word() for m in matches]}
 
@@ -434,7 +445,7 @@ class Session:
             return self.refused(row, refusal, **asked, **({"stands": m.members(game)} if refusal.startswith("1 ") else {}))
         m.enter(reporter, word)
         self.events.append((row, reporter, game, word))
-        members = {"reply": "ok", **asked, "number": m.number, **self.style.moment(self.matches, self.roster)}
+        members = {"reply": "ok", **asked, "number": m.number, "version": version(self.matches), "edition": self.style.edition}
         return self.told(row, members, f"{row} ok {game} {m.number} {version(self.matches)}\n") + (self.shown(row) if self.with_screens else [])
 
     def refused(self, row, refusal, **more):
@@ -480,7 +491,7 @@ class Session:
             code, name = refusal.split()[:2]
             members = {"reply": "left-out", "row": number_, "reporter": reporter, "match": game, "event": word, "code": int(code), "name": name}
             lines.append(line_of(members))
-        members = {"reply": "mended", "left_out": len(left_out), **({} if without is None else {"without": without}), **self.style.moment(self.matches, self.roster)}
+        members = {"reply": "mended", "left_out": len(left_out), "version": version(self.matches), "edition": later, **({} if without is None else {"without": without})}
         lines += self.told(row, members, f"{row} mended {later} {version(self.matches)}\n")
         return lines + (self.shown(row) if self.with_screens else [])
 

@@ -42,4 +42,5 @@ def write(text):
         data = data[os.write(1, data) :]
 
 
-main()
+if __name__ == "__main__":
+    main()

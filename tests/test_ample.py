@@ -4,6 +4,7 @@ What a call does at a length or a number that no test has come to is not seen he
 """
 
 import ctypes as c
+import json
 import random
 
 import model
@@ -145,12 +146,35 @@ EVENING = model.CLUBS + "1,1,0,kickoff\n"
 
 @pytest.mark.parametrize("words", [[], ["--format", "json"], ["--screens"]], ids=" ".join)
 def test_long_evening(run, words):
-    """Of 400,000 rows, most of them bad, with requests of each kind at random rows and at the last ones."""
-    rows, draw = ["x\n"] * 400_000, random.Random(7)
+    """Of 1,100,000 rows, most of them bad, with requests of each kind at random rows and near the end; the last row has no line feed."""
+    rows, draw = ["x\n"] * 1_100_000, random.Random(7)
     for row in [*draw.sample(range(len(rows) - 10), 2_000), *range(len(rows) - 10, len(rows))]:
         rows[row] = draw.choice(["screen,,,\n", "words,,,\n", "matches,,,\n", "1,1,1,goal-home\n"])
-    ran = run("ucl_live", *words, input=EVENING + "".join(rows))
-    assert (ran.status, ran.errors) == (0, "")
+    ran = run("ucl_live", *words, input=EVENING + "".join(rows) + "x")
+    assert (ran.status, ran.errors) == (0, "") and "1100006" in ran.output[-200:]
+
+
+@pytest.mark.parametrize("words", [[], ["--format", "json"]], ids=" ".join)
+def test_mends_up_to_a_full_board(run, words):
+    """Each match in turn has all its events, and is mended at some numbers on the way, at the last ones also beside the full matches before it."""
+    rows, wanted, version = [model.CLUBS], [], 0
+    for match in range(1, 13):
+        for number in range(4_095):
+            event = "kickoff" if number == 0 else "goal-home" if number % 2 else "disallow-home"
+            rows.append(f"1,{match},{number},{'fulltime' if number == 4_094 else event}\n")
+            version += 1
+            if number in (0, 1, 1_500, 4_093, 4_094):
+                edition = len(wanted) + 1
+                rows.append(f"mend,,{edition},\n")
+                wanted.append((len(rows) + 3, edition, version))
+    ran = run("ucl_live", *words, input="".join(rows))
+    lines = [line for line in ran.output.splitlines() if "mended" in line]
+    if words:
+        parts = [[json.loads(line)[it] for it in ("row", "edition", "version")] for line in lines]
+    else:
+        parts = [line.replace(" mended", "").split() for line in lines]
+    told = [tuple(map(int, it)) for it in parts]
+    assert (ran.status, ran.errors, told) == (0, "", wanted)
 
 
 @pytest.mark.parametrize("words", [[], ["--format", "json"], ["--matches"]], ids=" ".join)
@@ -160,3 +184,19 @@ def test_long_following(run, words):
     odd = ["x" * length + "\n" for length in range(4_200)]
     ran = run("ucl_follow", *words, input="".join((lines + odd) * 4 + lines * 2_000))
     assert ran.status == 0 and "memory" not in ran.errors
+
+
+@pytest.fixture(scope="module")
+def screens(run):
+    """The screens in JSON of an evening of all events that matches have room for."""
+    evening = run(
+        "ucl_live", "--format", "json", "--screens", input=NIGHT.split("1,2,1,kickoff")[0]
+    )
+    return [line for line in evening.output.splitlines(True) if '"reply":"screen"' in line]
+
+
+@pytest.mark.parametrize("words", [[], ["--format", "json"], ["--matches"]], ids=" ".join)
+def test_following_of_each_version(run, screens, words):
+    """Each is shown."""
+    ran = run("ucl_follow", *words, input="".join(screens))
+    assert ran.status == 0 and ran.errors == "49128 lines, 49128 shown, 0 passed over\n"

@@ -17,6 +17,7 @@ THREE = "".join(CLUBS.splitlines(True)[:3])
 SHEET, SECOND_SCREEN = example("two_matches_sheet.csv"), example("two_matches_sheet.expected")
 WHOLE, WHOLE_SCREEN = example("head_to_head.csv"), example("head_to_head_sheet.expected")
 AWAY, AWAY_END, AWAY_IN_TIE = (example(f"away_goals_night.{ending}") for ending in ("csv", "expected", "away_in_tie"))
+AWAY_SHEET = rows_of(AWAY, "club") + model.sheet(model.entered(model.parsed(AWAY)[1])[0])
 STORED, STORED_END = (example(f"group_a_2021_night.{ending}") for ending in ("csv", "expected"))
 
 # ---- inputs that are refused: nothing goes to standard output
@@ -102,6 +103,30 @@ test_inputs_that_are_taken = tabled({
 })
 
 
+EVENING = AWAY + "screen,,,\n"
+STYLES = [(letter, order) for letter in "ABCDEFGH" for order in ("uefa", "away-in-tie")]
+
+
+def styled(letter, order):
+    """Each program in this group and order, which are asked for or stand in the first row: a board on which the orders differ, under that letter."""
+    words, closing = f"--group {letter} --order {order}", (AWAY_END if order == "uefa" else AWAY_IN_TIE).replace("GROUP A", f"GROUP {letter}")
+    titled, other = f"group,{letter},{order},1\n{EVENING}", "BCDEFGHA"["ABCDEFGH".index(letter)]
+    last = model.Session([*words.split(), "json"]).of(EVENING)[1].splitlines(True)[-1]
+    return {
+        f"show {words}": (f"ucl_night show {words}", AWAY_SHEET, closing.removeprefix("FINAL\n")),
+        f"night {words}": (f"ucl_night night {words}", AWAY, closing),
+        f"an evening {words}": (f"ucl_live {words}", EVENING, model.Session(words.split()).of(EVENING)[1]),
+        f"an evening of {letter} by {order}": ("ucl_live", titled, model.Session([]).of(titled)[1]),
+        f"following {words}": (
+            f"ucl_follow {words}", last.replace(f'"group":"{letter}"', f'"group":"{other}"') + last, closing.removeprefix("FINAL\n"), 0,
+            f"line 1: group {other}, order {order}, is passed over\n2 lines, 1 shown, 1 passed over\n",
+        ),
+    }
+
+
+test_each_group_and_order = tabled({name: row for style in STYLES for name, row in styled(*style).items()})
+
+
 @pytest.mark.parametrize("words", [["--order", "away-in-tie"], ["--order", "uefa"], []], ids=" ".join)
 def test_screen_of_a_night_by_an_order(run, words):
     ending = AWAY_IN_TIE if "away-in-tie" in words else AWAY_END
@@ -109,14 +134,21 @@ def test_screen_of_a_night_by_an_order(run, words):
     assert run("ucl_night", "show", *words, input=rows_of(AWAY, "club") + words_of_board) == (0, ending.removeprefix("FINAL\n"), "")
 
 
-def test_night_with_each_number_of_readings(run):
+@pytest.mark.parametrize("order", ["uefa", "away-in-tie"])
+def test_night_with_each_number_of_readings(run, order):
     """Each reader has its last screen, and the closing screen comes after both. On a board of its own a night finds a number for each reporter, and no stranger."""
-    screen = r"GROUP A v\d{5} IN PLAY \d\n.*\n(?:\d [-+ ] .{49}\n){4}"
+    screen, versions, ends = r"GROUP A v(\d{5}) IN PLAY \d\n.*\n(?:\d [-+ ] .{49}\n){4}", set(), {}
+    for script in WHOLE, AWAY:
+        ends[script] = model.night("night", ["--order", order], script)[1]
     for readings in range(1, 1001):
-        script, closing = (WHOLE, FINAL) if readings % 100 == 3 else (STORED, STORED_END)
-        ran = run("ucl_night", "night", "--readings", str(readings), input=script)
+        script = WHOLE if readings % 100 == 3 else AWAY
+        ran = run("ucl_night", "night", "--order", order, "--readings", str(readings), input=script)
         assert (ran.status, ran.errors) == (0, ""), f"{readings} readings"
-        assert re.fullmatch(f"READER 1\n{screen}READER 2\n{screen}{re.escape(closing)}", ran.output), f"{readings} readings"
+        told = re.fullmatch(f"READER 1\n{screen}READER 2\n{screen}{re.escape(ends[script])}", ran.output)
+        assert told, f"{readings} readings"
+        versions |= {*told.groups()}
+    # Readers look on while events are entered, so that some find one, and few the same.
+    assert len(versions - {"00000"}) > 1
 
 
 LARGEST = CLUBS + "1,1,00000,kickoff\n" * 2 + "1,1,0,kickoff\n" * 299_585
@@ -240,6 +272,35 @@ def test_events_of_the_help_are_those_that_are_taken(run):
     assert [event for event in events if run("ucl_night", "feed", input=CLUBS + f"1,1,0,{event}\n").status] == []
 
 
+# What each refusal that a help tells by its number is for, as its text begins.
+REASONS = {
+    "1 stale NUMBER": "the match has this event number by now",
+    "11 no-event": "no event that stands has this line",
+    "12 last-edition": "65535 is reached, or the edition is not later",
+    "20 bad-row": "the line asks for nothing that there is",
+}
+
+
+def test_rows_of_the_help_do_what_it_says(run):
+    """Each form of a row, filled out, has the answer whose form stands there."""
+    told = run("ucl_live", "--help").output
+
+    def row(form, **fields):
+        assert f"\n  {form} " in told
+        return re.sub("[A-Z]+", lambda name: str(fields[name[0]]), form) + "\n"
+
+    enters = lambda expected, event: row("REPORTER,MATCH,EXPECTED,EVENT", REPORTER=1, MATCH=1, EXPECTED=expected, EVENT=event)
+    names = lambda slot, name: row("club,SLOT,NAME,COEFFICIENT", SLOT=slot, NAME=name, COEFFICIENT=60_000)
+    text = row("group,GROUP,ORDER,EDITION", GROUP="C", ORDER="uefa", EDITION=1) + "".join(map(names, range(1, 5), ["Alpha", "Bravo", "Charlie", "Delta"]))
+    text += enters(0, "kickoff") + enters(1, "goal-home") + enters(1, "goal-home") + row("mend,LINE,,", LINE=7) + row("mend,,EDITION,", EDITION=5)
+    text += row("mend,LINE,,", LINE=7) + row("mend,,EDITION,", EDITION=5) + names(2, "Echo") + "x\n" + row("words,,,")
+    answers = ["ok 1 1 1", "ok 1 2 2", "refused 1 stale 2", "mended 2 1", "mended 5 1", "refused 11 no-event", "refused 12 last-edition", "mended 6 1", "refused 20 bad-row"]
+    wanted = "".join(f"{line} {answer}\n" for line, answer in enumerate(answers, 6)) + "word,1,2001000000001001,\n" + "".join(FRESH[1:])
+    assert run("ucl_live", input=text) == (0, wanted, "")
+    assert "as mend,17,,\n" in told and "\n  LINE mended EDITION VERSION " in told
+    assert dict(re.findall(r"^  LINE refused (\d.*?) {2,}(.*?)(?:: look at)?$", told, re.M)) == REASONS
+
+
 @pytest.mark.parametrize("name", ["ucl_night", "ucl_live"])
 def test_examples_of_the_help(run, place, name):
     """Each example of the help, as it stands there, ends well and writes something; a record that is followed is whole."""
@@ -333,7 +394,8 @@ def test_too_little_memory_for_the_words(run, memory):
 
 
 def test_too_little_memory(run):
-    """For the largest input; an evening needs no more than its lines do."""
+    """For the largest input, for which 64 MB are enough; an evening needs no more than its lines do."""
+    assert run("ucl_night", "feed", input=LARGEST, **within(resource.RLIMIT_AS, 64 << 20)).status == 0
     assert run("ucl_night", "feed", input=LARGEST, **within(resource.RLIMIT_AS, 12_000 << 10)) == (5, "", "out of memory 23\n")
     little = within(resource.RLIMIT_AS, 12_000 << 10)
     assert run("ucl_live", input=example("one_goal.csv"), **little) == (0, "5 ok 1 1 1\n6 ok 1 2 2\n", "")

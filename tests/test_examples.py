@@ -8,10 +8,10 @@ import shutil
 import pytest
 from conftest import EXAMPLES, TOP, command, needs, tabled, text_of
 
-from hall import options, reporter
+from ucl_hall.terminal import command as terminal
+from ucl_hall.web import options as server
 
 README = text_of(TOP / "README.md")
-SEASON = EXAMPLES / "season_2021_22"
 WORD_OF = {"sheet": "show", "night": "night"}
 TOLD = "8 lines, 2 shown, 6 passed over\n"
 answers, screens = (text_of(EXAMPLES / f"followed.{ending}") for ending in ("jsonl", "expected"))
@@ -19,24 +19,8 @@ answers, screens = (text_of(EXAMPLES / f"followed.{ending}") for ending in ("jso
 test_examples = tabled({
     **{f"{path.stem}": (f"ucl_night {WORD_OF.get(path.stem.split('_')[-1], 'feed')}", text_of(path), text_of(path.with_suffix(".expected")))
        for path in sorted(EXAMPLES.glob("*.csv"))},
-    **{f"group {group} of 2021/22": (f"ucl_night night --group {group}", *(text_of(SEASON / f"group_{group.lower()}.{ending}") for ending in ("csv", "expected")))
-       for group in "ABCDEFGH"},
     "what is shown of an evening that is followed": ("ucl_follow", answers, screens, 0, TOLD),
 })
-
-
-@pytest.mark.quick
-@pytest.mark.parametrize("group", "ABCDEFGH")
-def test_final_table(group):
-    """The closing screen of a group of the season has the clubs, points and goals of its final table, which is not ours."""
-    shown = [(row[4:24].rstrip(), *map(int, (row[49:53], row[36:40], row[40:44]))) for row in text_of(SEASON / f"group_{group.lower()}.expected").splitlines()[-4:]]
-    table = [row.split(",")[1:] for row in text_of(SEASON / "tables.csv").splitlines() if row.startswith(f"{group},")]
-    assert shown == [(row[1], *map(int, row[2:])) for row in table] and [row[0] for row in table] == list("1234")
-
-
-def test_matchdays(program, place):
-    program("ucl_night")
-    assert command([place / "examples/season_2021_22/matchdays", "A"]) == (0, text_of(SEASON / "matchdays_a.expected"), "")
 
 
 def test_writers_that_share_a_pipe(program, place):
@@ -45,11 +29,17 @@ def test_writers_that_share_a_pipe(program, place):
 
 
 def test_first_look(program, place):
-    """The commands of the README's first look, typed as they stand there, give what it shows."""
+    """The README's command, typed as it stands there, gives the table at its top."""
     program("ucl_live")
+    (line,) = re.findall(r"^\(cat .*$", README, re.M)
+    assert command(["bash", "-c", line], cwd=place).output == re.search(r"^```\n((?s:.*?))^```$", README, re.M)[1]
+
+
+def test_smallest_run(program, place):
+    """The command of docs/REFERENCE.md, typed as it stands there, gives what stands below it."""
     program("ucl_night")
-    blocks = re.findall(r"^```console\n\$ (.*)\n((?s:.*?))^```$", README, re.M)
-    assert [command(["bash", "-c", line], cwd=place).output for line, _ in blocks] == [shown for _, shown in blocks] and len(blocks) == 2
+    line, shown = re.search(r"^```console\n\$ (.*)\n((?s:.*?))^```$", text_of(TOP / "docs/REFERENCE.md"), re.M).groups()
+    assert command(["bash", "-c", line], cwd=place).output == shown
 
 
 @pytest.mark.quick
@@ -58,14 +48,14 @@ def test_lines_of_pages():
     lines = re.findall(r"^ *\./ucl_(serve|reporter) ([^>$\n]*)", README + text_of(TOP / "docs/OPERATE.md"), re.M)
     assert len(lines) >= 5
     for name, words in lines:
-        (options if name == "serve" else reporter).options_of(shlex.split(words, comments=True))
+        (server if name == "serve" else terminal).options_of(shlex.split(words, comments=True))
 
 
 @pytest.mark.quick
 def test_lines_of_c():
-    """The README's lines of C are lines of the program of docs/LIBRARY.md, which is compiled and run by its own test."""
-    lines, program = (re.sub(r"^ +", "", re.search(r"^```c\n(.*?)^```$", page, re.M | re.S)[1], flags=re.M) for page in (README, text_of(TOP / "docs/LIBRARY.md")))
-    assert lines in program
+    """The README's lines of C are lines of a program of docs/LIBRARY.md, which is compiled and run by its own test."""
+    (lines,), programs = (re.findall(r"^```c\n(.*?)^```$", page, re.M | re.S) for page in (README, text_of(TOP / "docs/LIBRARY.md")))
+    assert [program for program in programs if lines in re.sub(r"^ +", "", program, flags=re.M)]
 
 
 @pytest.mark.quick

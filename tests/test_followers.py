@@ -8,14 +8,14 @@ import time
 
 import pytest
 from conftest import EXAMPLES, Started, command, decoded, tabled, text_of
-from model import CLUBS, Session, followed
+from model import CLUBS, Session, followed, random_rows
 
 NIGHT = text_of(EXAMPLES / "group_a_2021_night.csv")
-answers_of = lambda text, *words: Session(["--format", "json", *words]).of(text)[1]
+answers_of = lambda text, *words: Session(["--format", "json", "--screens", *words]).of(text)[1]
 screens_of = lambda text, *words: [line for line in Session(["--screens", *words]).of(text)[1].splitlines(True) if " ok " not in line and " refused " not in line]
 ANSWERS, SCREENS = answers_of(NIGHT), "".join(screens_of(NIGHT))
 LINES = ANSWERS.splitlines(True)
-FIRST, SECOND = answers_of(CLUBS + "1,1,0,kickoff\n1,1,1,goal-home\n").splitlines(True)
+FIRST, SECOND = answers_of(CLUBS + "1,1,0,kickoff\n1,1,1,goal-home\n").splitlines(True)[1::2]
 SCREEN, BOTH = ("".join(screens_of(CLUBS + f"1,1,0,kickoff\n{more}")) for more in ("", "1,1,1,goal-home\n"))
 MATCHES = Session([]).of(CLUBS + "1,1,0,kickoff\nmatches,,,\n1,1,1,goal-home\nmatches,,,\n")[1].replace("5 ok 1 1 1\n", "").replace("7 ok 1 2 2\n", "")
 told = lambda lines, shown: f"{lines} lines, {shown} shown, {lines - shown} passed over\n"
@@ -23,6 +23,7 @@ count = SCREENS.count("GROUP")
 in_edition = lambda edition, line: line.replace('"edition":0', f'"edition":{edition}').replace("Alpha", "Alfa!")
 of_other = lambda line, group, order="uefa": line.replace('"group":"A"', f'"group":"{group}"').replace('"order":"uefa"', f'"order":"{order}"')
 other = lambda line, group, order="uefa": f"line {line}: group {group}, order {order}, is passed over\n"
+OTHERS = [(group, order) for group in "ABCDEFGH" for order in ("uefa", "away-in-tie") if (group, order) != ("A", "uefa")]
 renamed = lambda screen: screen.replace("Alpha", "Alfa!")
 
 test_answers = tabled({
@@ -47,6 +48,9 @@ test_answers = tabled({
     "an order that is asked for": ("ucl_follow --order uefa", of_other(FIRST, "A", "away-in-tie") + FIRST + SECOND, BOTH, 0, other(1, "A", "away-in-tie") + told(3, 2)),
     "an order alone, and the first group of it": ("ucl_follow --order uefa", FIRST + of_other(SECOND, "B"), SCREEN, 0, other(2, "B") + told(2, 1)),
     "others, each told once": ("ucl_follow --group A", "".join(of_other(line, group) for line in (FIRST, SECOND) for group in "HBA"), BOTH, 0, other(1, "H") + other(2, "B") + told(6, 2)),
+    "each other group and order, told once": (
+        "ucl_follow", FIRST + "".join(of_other(line, group, order) for group, order in OTHERS for line in (FIRST, SECOND)) + SECOND, BOTH, 0,
+        "".join(other(2 * at, group, order) for at, (group, order) in enumerate(OTHERS, 1)) + told(2 + 2 * len(OTHERS), 2)),
     "a later edition of another group": ("ucl_follow", FIRST + in_edition(1, of_other(FIRST, "C")) + SECOND, BOTH, 0, other(2, "C") + told(3, 2)),
     "none of the group": ("ucl_follow --group B", FIRST + SECOND, "", 0, other(1, "A") + told(2, 0)),
 })
@@ -70,8 +74,8 @@ test_rows_of_a_group = tabled({
 
 def test_late_row_of_an_old_edition(run):
     """A board that was begun again in the next edition tells it in each line: a follower passes over what the old one tells."""
-    old = run("ucl_live", "--format", "json", input=NIGHT).output
-    new = run("ucl_live", "--format", "json", input="group,A,uefa,1\n" + CLUBS + "1,1,0,kickoff\n").output
+    old = run("ucl_live", "--format", "json", "--screens", input=NIGHT).output
+    new = run("ucl_live", "--format", "json", "--screens", input="group,A,uefa,1\n" + CLUBS + "1,1,0,kickoff\n").output
     assert run("ucl_follow", input=new + old).output == run("ucl_follow", input=new).output
 
 
@@ -81,7 +85,7 @@ first_club = lambda **members: changed(clubs=[{**VALUE["clubs"][0], **members}, 
 of_length = lambda length: changed(more="x" * (length + 1 - len(changed(more=""))))
 WORDS = VALUE["words"]
 BAD = ["\n", "{}\n", "[]\n", "null\n", "x\n", "\udcff\udcfe\n", "\0\n", "[" * 4000 + "\n", SECOND[:-1] + "}\n", of_length(4097), of_length(9000), "x" * 100_000 + "\n"]
-BAD += [SECOND[:at] + "\n" for at in range(0, len(SECOND) - 1, 7)]
+BAD += [SECOND[:at] + "\n" for at in range(0, len(SECOND) - 1, 37)]
 BAD += [json.dumps({name: it for name, it in VALUE.items() if name != member}) + "\n" for member in ("group", "order", "clubs", "words")]
 BAD += [changed(group="I"), changed(group="AB"), changed(group=""), changed(group=1), changed(order="goals"), changed(words="2" * 16), changed(words=WORDS[:11])]
 BAD += [changed(words=WORDS + WORDS[-1:]), changed(words=["f" * 16, *WORDS[1:]]), changed(words=["2" * 15, *WORDS[1:]]), changed(clubs=VALUE["clubs"][:3])]
@@ -104,7 +108,7 @@ test_lines = tabled({
 
 def test_evenings_killed_a_thousand_times_are_answered_the_same_again(program):
     """Each reads the record anew: what is left of its answers is how those of the whole record begin, and a follower of it all ends with the table."""
-    live, whole = [program("ucl_live"), "--format", "json", "--screens"], answers_of(NIGHT, "--screens")
+    live, whole = [program("ucl_live"), "--format", "json", "--screens"], answers_of(NIGHT)
 
     def left(seed):
         """What is left of the answers of an evening that is killed."""
@@ -129,3 +133,45 @@ def test_moment_is_shown_at_once(start):
         follower.write(line)
         assert follower.lines(6) == screen
     assert follower.end() == (0, "", told(2, 2))
+
+
+MENDS = ["mend,6,,", "mend,9,,", "mend,30,,", "mend,,7,", "mend,,2,", "club,2,Real Madrid,95000"]
+JUNK = ["\n", "hello\n", "{}\n", FIRST[:900] + "\n", of_other(FIRST, "C"), "\udcff\n"]
+
+
+def table_at(rows, place):
+    """The table of the moment after so many rows of a record; empty before the board is open."""
+    lines = Session([]).of("".join([*rows[:place], "screen,,,\n"]))[1].splitlines(True)
+    return "".join(lines[-6:])
+
+
+@pytest.mark.parametrize("seed", range(25))
+def test_each_table_is_that_of_one_moment(program, seed):
+    """Of a record with mends, whose answers come in any order, doubled, lost, cut and with junk between, the tables are those of places that rise, the last the newest that came."""
+    chance = random.Random(seed)
+    events = random_rows(chance, 60)
+    for _ in range(6):
+        events.insert(chance.randint(1, len(events)), chance.choice(MENDS) + "\n")
+    rows = [*CLUBS.splitlines(True), *events]
+    answers = command([program("ucl_live"), "--format", "json", "--screens"], "".join(rows)).output.splitlines(True)
+    came = [chance.choice(answers[: max(10, at * 3)]) for at in range(60)]
+    for at in chance.sample(range(60), 20):
+        came[at] = chance.choice([*JUNK, came[at][: chance.randint(1, 400)] + "\n"])
+    tables = [table_at(rows, place) for place in range(len(rows) + 1)]
+    place, ran = 0, command([program("ucl_follow"), "--group", "A"], "".join(came))
+    shown = ran.output.splitlines(True)
+    for at in range(0, len(shown), 6):
+        place = tables.index("".join(shown[at : at + 6]), place + 1)
+    screens = [json.loads(line) for line in came if line in answers and '"reply":"screen"' in line]
+    newest = max(screens, key=lambda it: (it["edition"], it["version"]))
+    assert shown and "".join(shown[-6:]) == tables[newest["row"]]
+
+
+@pytest.mark.parametrize("places", [(8, 6), (6, 6)], ids=["an older one after a newer one", "one twice"])
+def test_tables_that_go_back_are_told(places):
+    """The test above tells tables of moments that do not rise: each of these places has a table of its own."""
+    rows = [*CLUBS.splitlines(True), "1,1,0,kickoff\n", "1,1,1,goal-home\n", "1,1,2,goal-home\n", "1,1,3,goal-away\n"]
+    tables, place = [table_at(rows, at) for at in range(len(rows) + 1)], 0
+    with pytest.raises(ValueError):
+        for at in places:
+            place = tables.index(tables[at], place + 1)

@@ -10,7 +10,9 @@ import shutil
 import conftest
 import model
 import pytest
+import seasons
 from conftest import EXAMPLES, TOP
+from test_seasons import closing_screen, joined
 
 HEADER, MODULE = TOP / "crates/ucl_c/uclboard.h", TOP / "examples/python/uclboard.py"
 CRATES = TOP / "crates"
@@ -203,13 +205,13 @@ def typed():
 
 
 def scripts(is_night):
-    """Scripts with the words for an example and what stands beside them: the closing screen of a night, or the replies."""
-    beside = lambda path: conftest.text_of(path.with_suffix(".expected"))
+    """Scripts with the words for an example and what it has to write: the closing screen of a night, or the replies."""
+    read, beside = conftest.text_of, lambda path: conftest.text_of(path.with_suffix(".expected"))
     if not is_night:
-        return [(path, "", beside(path)) for path in sorted(EXAMPLES.glob("*.csv")) if beside(path).startswith("5 ok ")]
-    found = [(path, "A uefa", beside(path)) for path in sorted(EXAMPLES.glob("*_night.csv"))]
-    found += [(path, f"{path.stem[-1].upper()} uefa", beside(path)) for path in sorted(EXAMPLES.glob("season_2021_22/group_?.csv"))]
-    return [*found, (EXAMPLES / "away_goals_night.csv", "A away-in-tie", conftest.text_of(EXAMPLES / "away_goals_night.away_in_tie"))]
+        return [(read(path), "", beside(path)) for path in sorted(EXAMPLES.glob("*.csv")) if beside(path).startswith("5 ok ")]
+    found = [(read(path), "A uefa", beside(path)) for path in sorted(EXAMPLES.glob("*_night.csv"))]
+    found += [(joined(it.rows()), f"{it.letter} uefa", "FINAL\n" + closing_screen(it)) for it in seasons.groups(["2021-22"])]
+    return [*found, (read(EXAMPLES / "away_goals_night.csv"), "A away-in-tie", read(EXAMPLES / "away_goals_night.away_in_tie"))]
 
 
 def dressed(text):
@@ -243,10 +245,10 @@ def built(shell, line, variant):
 def test_an_example_writes_what_stands_beside_each_script(shell, line, variant):
     running = built(shell, line, variant)
     is_night = running.endswith(" A")
-    for path, words, wanted in scripts(is_night):
-        for text in (plain := conftest.text_of(path)), dressed(plain):
+    for plain, words, wanted in scripts(is_night):
+        for text in plain, dressed(plain):
             run = shell(f"{running.removesuffix(' A')} {words}", text)
-            assert (run.status, run.output) == (0, wanted), (path.name, run.errors)
+            assert (run.status, run.output) == (0, wanted), run.errors
 
 
 GOOD = model.CLUBS + "1,1,0,kickoff\n\n"

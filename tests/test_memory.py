@@ -107,11 +107,18 @@ def test_a_thread_that_did_not_start_is_told_before_a_screen_without_memory(prog
         assert run.output.splitlines()[0] == (no_thread if answer == no_thread else no_memory)
 
 
+def test_a_night_of_the_program_tells_which_of_both_it_lacks(program, refuses):
+    """Of the requests of its first thread the last one is for the closing screen, and some before are for threads."""
+    alone, _ = swept(refuses, "main", "start", [program("ucl_night"), "night", "--readings", "3"], text_of(f"{H2H}.csv"))
+    faults = [run.errors for run, _ in alone]
+    assert faults.count("no thread 27\n") >= 4 and faults[-1] == "out of memory 23\n"
+
+
 ROWS = "two_matches.csv", "screen,,,\nwords,,,\nmatches,,,\n"
 BAD_ROWS = "one_goal.csv", "1,1\n\n1,1,0,kickoff,\n\r1,1,0,kickoff\r\r\n1,2,0,kickoff\r3,4\n,\n" + "x" * 300 + '\n"1",1,"0","kickoff"\n1,1,2,goal-away'
 MORE_ROWS = "one_goal.csv", "group,A,uefa,1\nclub,1,Echo,7\n1,1,0,kickoff\nscreen,,,\n1,1,0,kickoff\n"
 # Each run of a program with its input and its status, and how many lines of its output may be out where want of memory is told: in an evening the
-# clubs ask for memory, the screen, the words, the matches, a screen after an accepted event, and all in JSON. Other lines ask for none, also in quotes.
+# clubs ask for memory, the screen, the words, the matches, a screen after an accepted event, and all in JSON. Other lines ask for none, also in quotes; a follower asks at each.
 RUNS = {
     "ucl_night --help": ([], 0, [0]),
     "ucl_night feed": (["two_matches.csv"], 0, [0]),
@@ -128,6 +135,9 @@ RUNS = {
     "ucl_live --format json": (ROWS, 0, range(13)),
     "ucl_live --format text": (MORE_ROWS, 0, [0, 5]),
     "ucl_live --format json --screens": (MORE_ROWS, 0, [0, 2, 4, 5, 7, 8, 9]),
+    "ucl_follow --help": ([], 0, [0]),
+    "ucl_follow --matches": (["followed.jsonl"], 0, [0, 12, 24]),
+    "ucl_follow --format json": (["followed.jsonl"], 0, range(3)),
 }
 
 
@@ -136,7 +146,7 @@ RUNS = {
 def test_a_run_of_a_program(program, refuses, line, mode):
     (name, *words), (given, status, places) = line.split(), RUNS[line]
     met, whole = swept(refuses, mode, "start", [program(name), *words], text_of(*given) if given else "")
-    assert whole.status == status and (not whole.errors if status == 0 else not whole.output)
+    assert whole.status == status and not (whole.output if status else whole.errors.replace("8 lines, 2 shown, 6 passed over\n", ""))
     told = ["out of memory 23\n"] + ["no thread 27\n"] * ("night" in words)
     allowed = [(5, "".join(whole.output.splitlines(True)[:place]), fault) for place in places for fault in told]
     assert [run for run, asks_again in met if run not in allowed + [whole] * asks_again] == []

@@ -14,6 +14,7 @@ MEANT = {
     "a goal that was disallowed, and counts": ("1 kickoff, 1 goal-home, 1 disallow-home", "1 kickoff, 1 goal-home"),
     "full time, and the match goes on": ("1 kickoff, 1 goal-away, 1 fulltime", "1 kickoff, 1 goal-away"),
     "a reopening, and the match was over": ("1 kickoff, 1 fulltime, 1 reopen", "1 kickoff, 1 fulltime"),
+    "a goal that was none in a match that is over": ("1 kickoff, 1 goal-home, 1 fulltime", "1 kickoff, 1 fulltime"),
     "a goal that was forgotten in a match that is over": ("1 kickoff, 1 fulltime", "1 kickoff, 1 goal-away, 1 fulltime"),
 }
 PAIRS = re.findall(r"^\| (.+?) \| ((?:`\d+ [a-z ]+` ?)+) \|$", text_of(TOP / "docs/OPERATE.md"), re.M)

@@ -9,7 +9,6 @@ import pathlib
 import re
 import shlex
 import shutil
-import socket
 import subprocess
 import tempfile
 
@@ -19,14 +18,12 @@ import pytest
 from conftest import EXAMPLES, TOP, command, needs, text_of
 from test_serve import Socket, free_port
 
-# The last commit before there was one server: its package has a unit for each group and one for the page.
-BEFORE = "2c9dd9f4"
 PROGRAMS = "ucl_live ucl_follow ucl_night".split()
 PACKAGES = "ucl-board ucl-board-hall libuclboard1 libuclboard-dev python3-uclboard".split()
 DOC = "/usr/share/doc/ucl-board/examples"
 NIGHT = f"python3 /usr/share/doc/python3-uclboard/examples/night.py A <{DOC}/first_night.csv"
 # What the roots have: nothing, and what the packages and these tests recommend.
-ROOTS = {"bare": [], "full": ["--include=python3,python3-aiohttp,python3-paho-mqtt,python3-prompt-toolkit,mosquitto-clients,man-db,bash-completion,zsh,gcc,libc6-dev,pkg-config"]}
+ROOTS = {"bare": [], "full": ["--include=python3,python3-aiohttp,python3-prompt-toolkit,man-db,bash-completion,zsh,gcc,libc6-dev,pkg-config"]}
 
 # One worker makes the packages and the roots, and has all these tests.
 pytestmark = [pytest.mark.limit(600), pytest.mark.xdist_group("package")]
@@ -98,7 +95,7 @@ def test_what_was_proved_is_told(dist, tree):
     assert all(command(["bash", "-c", line], cwd=TOP / "crates" / name).output.split()[0] == number for number, name in crates)
     logic = re.search(r"logic ([0-9a-f]{16})", command([tree / "usr/bin/ucl_live", "--version"]).output)[1]
     assert f"logic     {logic}\n" in told and f"commit    {command(['git', 'rev-parse', 'HEAD']).output.strip()} of" in told
-    assert "\n- The prover. " in told and "\n- Compiler, linker, processor, " in told and "\nchecks/looks\n" in told
+    assert "\n- The prover: " in told and "\n- Compiler, linker, processor, " in told and "\n- checks/looks: " in told
 
 
 def test_lintian_finds_nothing(dist):
@@ -196,8 +193,9 @@ def test_where_nothing_is(roots, dist, place):
     assert command(["cc", EXAMPLES / "c/feed.c", "-I", library, "-L", library, "-luclboard", "-o", root.path / "usr/local/bin/feed"]) == (0, "", "")
     before = root.files()
     root.install(dist, "ucl-board", "libuclboard1")
-    block = re.search(r"^```console\n\$ (.*?)\n(.*?)^```$", text_of(TOP / "README.md"), re.M | re.S)
-    assert root.needs(block[1].replace("./", "").replace("examples/", f"{DOC}/")) == block[2]
+    page = text_of(TOP / "README.md")
+    (line,), table = re.findall(r"^\(cat .*$", page, re.M), re.search(r"^```\n((?s:.*?))^```$", page, re.M)[1]
+    assert root.needs(line.replace("./", "").replace("examples/", f"{DOC}/")) == table
     evening = f"(cat {DOC}/two_matches.csv; echo screen,,,) | ucl_live --format json | ucl_follow 2>/dev/null | tail -n 6"
     assert root.needs(evening) == text_of(EXAMPLES / "two_matches_sheet.expected")
     assert root.needs(f"feed <{DOC}/one_goal.csv") == text_of(EXAMPLES / "one_goal.expected")
@@ -207,35 +205,21 @@ def test_where_nothing_is(roots, dist, place):
     assert root.files() == before
 
 
-@pytest.fixture(scope="session")
-def before(dist, tmp_path_factory):
-    """The package of before there was one server, with programs of now."""
-    folder = tmp_path_factory.mktemp("before")
-    assert command(["git", "clone", "-q", "--shared", TOP, folder / "top"]).status == 0 and command(["git", "checkout", "-q", BEFORE], cwd=folder / "top").status == 0
-    for name in [*(f"crates/{name}/out/{name}" for name in PROGRAMS), "library"]:
-        (folder / "top" / name).parent.mkdir(parents=True, exist_ok=True)
-        (shutil.copytree if (TOP / name).is_dir() else shutil.copy2)(TOP / name, folder / "top" / name)
-    script = folder / "top/packaging/package"
-    script.write_text(re.sub("^missing=.*$", ":", text_of(script), flags=re.M))
-    return packed(folder / "top", folder / "dist")
-
-
-# What the version before had: a group that was begun, and one that was not.
-OLD_PAGE, OLD_UNITS = "GROUP=a\nADDRESS=127.0.0.1\nPORT=8123\n", "/etc/systemd/system/ucl-matchday.target.wants"
-OLD_ROWS = f"group,A,uefa,0\n{model.CLUBS}screen,,,\n1,1,0,kickoff\n1,1,1,goal-home\n"
+# A record of a service that goes on, with a screen that was asked for in it.
+OLD_ROWS = f"group,A,uefa,0\n{model.CLUBS}screen,,,\n1,1,0,kickoff\n1,1,1,goal-home\n1,1,2,yellow-away\n"
+ARGUMENTS = "ARGUMENTS=--listen 127.0.0.1:8123 a.csv c.csv --clubs /etc/ucl-board/a.csv --group A --clubs /etc/ucl-board/c.csv --group C\n"
 
 
 @pytest.fixture(scope="session")
-def full(roots, dist, before):
-    """A root with a compiler, Python, the manual and clients of a broker, in which all packages are installed, over the package of before."""
+def full(roots, dist):
+    """A root with a compiler, Python and the manual, in which all packages are installed, over themselves once."""
     root = roots["full"]
-    root.install(before, "ucl-board")
-    (root.path / "etc/ucl-board/page").write_text(OLD_PAGE)
+    root.install(dist, *PACKAGES)
+    root.needs("mkdir -p /var/lib/ucl-board")
     for group in "ac":
         (root.path / f"etc/ucl-board/{group}.csv").write_text(model.CLUBS)
-    root.needs(f"mkdir -p /var/lib/ucl-board/a {OLD_UNITS} && ln -s /usr/lib/systemd/system/ucl-board@.service {OLD_UNITS}/ucl-board@a.service")
-    (root.path / "var/lib/ucl-board/a/a.rows").write_text(OLD_ROWS)
-    assert "1 kickoff" in root.needs("echo 1 yellow away | ucl_reporter /var/lib/ucl-board/a/a.rows; echo 1 kickoff")
+    (root.path / "etc/ucl-board/serve").write_text(ARGUMENTS)
+    (root.path / "var/lib/ucl-board/a.csv").write_text(OLD_ROWS)
     root.install(dist, *PACKAGES)
     return root
 
@@ -280,18 +264,6 @@ def test_completion(full, tmp_path, shell):
     assert run.status == 0, run.output
 
 
-@contextlib.contextmanager
-def broker(path):
-    """A broker on this machine, and the file that says where it is."""
-    needs("mosquitto")
-    with socket.socket() as at:
-        at.bind(("127.0.0.1", 0))
-        port = at.getsockname()[1]
-    (path / "broker.conf").write_text(f"listener {port} 127.0.0.1\nallow_anonymous true\n")
-    with conftest.Started(["mosquitto", "-c", path / "broker.conf"]):
-        yield f"-h 127.0.0.1\n-p {port}\n"
-
-
 # Starts a command that may make these system calls and no other.
 FILTERED = """import ctypes, os, sys
 of = ctypes.CDLL("libseccomp.so.2")
@@ -317,25 +289,20 @@ def calls_of(unit):
     return allowed
 
 
-def test_what_an_upgrade_takes_over(full):
-    """Records and clubs stay where they are, and become arguments; the old units are gone, and what was enabled is."""
-    assert text_of(full.path / "etc/ucl-board/serve").splitlines()[-1] == (
-        "ARGUMENTS=--listen 127.0.0.1:8123 a/a.rows c/c.rows --clubs /etc/ucl-board/a.csv --group A --clubs /etc/ucl-board/c.csv --group C --broker /etc/ucl-board/address")
-    assert text_of(full.path / "var/lib/ucl-board/a/a.rows") == f"{OLD_ROWS}1,1,2,yellow-away\n" and text_of(full.path / "etc/ucl-board/c.csv") == model.CLUBS
+def test_an_upgrade_changes_no_arguments_and_no_record(full):
+    """What somebody wrote stays, and there is one service."""
+    assert text_of(full.path / "etc/ucl-board/serve") == ARGUMENTS and text_of(full.path / "var/lib/ucl-board/a.csv") == OLD_ROWS
     assert [path.name for path in (full.path / "usr/lib/systemd/system").glob("ucl-*")] == ["ucl-serve.service"]
-    assert [path.name for path in (full.path / "etc/systemd/system").glob("*.wants/ucl-*")] == ["ucl-serve.service"]
-    assert not (full.path / "etc/ucl-board/page").exists() and full.run("ls /run/ucl-board.ran").status
 
 
-def test_services(full, tmp_path):
-    """What the unit starts, with the system calls that it allows, goes on with the table of before: rows come in by the broker and by a link, a second one
+def test_services(full):
+    """What the unit starts, with the system calls that it allows, goes on with the table of before: rows come in by a link and by a terminal, a second one
     ends at the lock, and a killed one goes on."""
     needs("systemd-analyze")
     unit = text_of(full.path / "usr/lib/systemd/system/ucl-serve.service").replace("%S", "/var/lib")
     folder, started = (re.search(f"^{name}=(.*)$", unit, re.M)[1] for name in ("WorkingDirectory", "ExecStart"))
     filtered = shlex.join(["python3", "-c", FILTERED, ",".join(calls_of(unit))])
-    with broker(tmp_path) as address, contextlib.ExitStack() as running:
-        (full.path / "etc/ucl-board/address").write_text(address)
+    with contextlib.ExitStack() as running:
         (full.path / "etc/ucl-board/serve").write_text(re.sub(r"127.0.0.1:\d+", f"127.0.0.1:{free_port()}", text_of(full.path / "etc/ucl-board/serve")))
         arguments = text_of(full.path / "etc/ucl-board/serve").split("ARGUMENTS=")[1].strip()
         port = int(re.search(r"127.0.0.1:(\d+)", arguments)[1])
@@ -349,7 +316,7 @@ def test_services(full, tmp_path):
 
         def phone():
             """A phone of reporter 1 of group A."""
-            key = full.needs(f"cd {folder} && ucl_serve --links a/a.rows").split("/")[-1].strip()
+            key = full.needs(f"cd {folder} && ucl_serve --links a.csv").split("/")[-1].strip()
             it = Socket(port, f"/report/{key}/taps")
             assert it.until("recent")
             return it
@@ -362,13 +329,12 @@ def test_services(full, tmp_path):
         assert screen.until("screen", group="A")["words"] == [match.word() for match in matches]
         assert phone().answer(1, 3, "goal-away") == "entered"
         second = full.run(server)
-        assert second.status == 1 and "a/a.rows is served already" in second.errors
+        assert second.status == 1 and "a.csv is served already" in second.errors
         first.kill()
         first.wait()
         begin()
-        (full.path / "address").write_text(address)
-        run = full.run("mkdir -p /c && cp /address /c/mosquitto_sub && XDG_CONFIG_HOME=/c ucl_reporter --broker a --number 2", "1 fulltime\n")
+        run = full.run("ucl_reporter /var/lib/ucl-board/a.csv --number 2", "1 fulltime\n")
         assert (run.status, run.output.count(" entered")) == (0, 1), run
-        assert text_of(full.path / "var/lib/ucl-board/a/a.rows").endswith("1,1,3,goal-away\n2,1,4,fulltime\n")
-    full.needs("rm -rf /c /address; dpkg -P ucl-board-hall ucl-board python3-uclboard libuclboard-dev libuclboard1")
+        assert text_of(full.path / "var/lib/ucl-board/a.csv").endswith("1,1,3,goal-away\n2,1,4,fulltime\n")
+    full.needs("dpkg -P ucl-board-hall ucl-board python3-uclboard libuclboard-dev libuclboard1")
     assert not (full.path / "var/lib/ucl-board").exists() and not (full.path / "etc/ucl-board").exists()

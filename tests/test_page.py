@@ -17,10 +17,11 @@ from typing import NamedTuple
 import conftest
 import model
 import pytest
+import seasons
 from test_serve import free_port, hall, until  # noqa: F401, a fixture
 
 pytestmark = pytest.mark.limit(200)
-PAGE = conftest.TOP / "hall/pages/index.html"
+PAGE = conftest.TOP / "ucl_hall/web/pages/index.html"
 SILENCE = 4
 LARGE = (1920, 1080)
 # How large names, figures and scores of the season are at least at each size: of one group, and on the wall.
@@ -59,7 +60,7 @@ const inksOf = (node) => {
   const parent = node.parentElement, text = node.data.trim(), range = document.createRange();
   if (!text || parent.closest(".heard, script, template")) return [];
   range.selectNodeContents(node);
-  const ink = drawn(text, parent), cell = parent.closest("td, th, .match > span, li, h1, p, footer"), row = parent.closest("tr, li, header, footer, #title");
+  const ink = drawn(text, parent), cell = parent.closest("td, th, .match > span, li, h1, p, footer"), row = parent.closest("tr, li, header, footer, #title, #choice");
   return [...range.getClientRects()].filter((rect) => rect.width > 0).map((rect, line) => {
     const base = rect.top + ink.fontBoundingBoxAscent, top = base - ink.actualBoundingBoxAscent, bottom = base + ink.actualBoundingBoxDescent;
     return { text, parent, cell, row, line, left: rect.left, right: rect.right, top, bottom };
@@ -69,7 +70,8 @@ const inks = () => {
   const walk = document.createTreeWalker(document.body, NodeFilter.SHOW_TEXT), found = [];
   while (walk.nextNode()) found.push(...inksOf(walk.currentNode));
   return found;
-};"""
+};
+Object.assign(window, {inks, where});"""
 # What is wrong with how the page looks, the columns of its tables, how much of its cell a text of a row fills at most, and the smallest letters: of names,
 # figures and scores, and of all.
 LOOK = """const near = (one, two, most = 0.6) => Math.abs(one - two) <= most, size = (element) => parseFloat(getComputedStyle(element).fontSize);
@@ -168,9 +170,9 @@ class BoardState(NamedTuple):
         return self._replace(group=group or self.group, edition=edition, roster=[(name, 0) for name in clubs] or self.roster)
 
 
-def season(group):
+def season(group, year="2021-22"):
     """The season of a group: of each matchday both matches in play, the first over, both over."""
-    roster, events = model.parsed(conftest.text_of(conftest.EXAMPLES / f"season_2021_22/group_{group.lower()}.csv"))
+    roster, events = model.parsed("".join(row + "\n" for row in seasons.group(year, group).rows()))
     moments, matches, games = [], model.fresh(), []
     for reporter, game, _, word in events:
         if word == "fulltime":
@@ -221,9 +223,9 @@ class Sheet:
         self.reload()
 
     def reload(self):
-        """Opens the page again, without a WebSocket, and with a clock that tests can put ahead."""
+        """Opens the page again, without a WebSocket, with a clock that tests can put ahead, and one that somebody has set back."""
         self.browser.refresh()
-        self.run(f"open = () => {{}}; window.ahead = 0; const now = Date.now; Date.now = () => now() + 1000 * ahead; {SHOWN} {INKS} {LOOK}")
+        self.run(f"open = () => {{}}; window.ahead = 0; const now = performance.now.bind(performance); performance.now = () => now() + 1000 * ahead; Date.now = () => 0; {SHOWN} {INKS} {LOOK}")
 
     def resize(self, size):
         """Makes the window as large as this."""
@@ -395,9 +397,10 @@ def test_a_board_that_is_begun_again_takes_back_a_kick_off_and_brings_its_own_cl
 def test_lines_that_tell_no_screen(sheet):
     moment = SEASON["A"][0]
     said = json.loads(moment.line())
-    changed = [{"group": "I"}, {"group": 1}, {"version": "16"}, {"reply": "ok"}, {"table": [1, 2, 3]}, {"words": []}]
+    changed = [{"group": "I"}, {"group": 1}, {"version": "16"}, {"reply": "ok"}, {"table": [1, 2, 3]}, {"matches": []}]
     changed += [{"edition": it} for it in ("1", 0.5, -1, 65536, None)]
-    changed += [{"clubs": None}, {"table": [None] * 4}, {"words": ["x"] * 12}, {"clubs": [None] * 4}]
+    changed += [{"clubs": None}, {"table": [None] * 4}, {"matches": ["x"] * 12}, {"clubs": [None] * 4}]
+    changed += [{"matches": [{**said["matches"][0], **it}, *said["matches"][1:]]} for it in ({"home": 5}, {"away": 0}, {"state": "OVER"}, {"score": None})]
     lines = [json.dumps({**said, "version": 99, "row": at, **it}) for at, it in enumerate(changed)]
     sheet.open("group=A")
     sheet.take(moment.line())
@@ -424,6 +427,20 @@ def test_no_signal_where_nothing_comes_or_no_word_of_the_group(sheet):
         assert signal() == told
     sheet.open("wall")
     assert [group for group, it in sheet.take(b.line()).items() if it["signal"] == "No signal"] == [*"ACDEFGH"]
+
+
+@pytest.mark.quick
+def test_for_how_long_there_is_no_signal(sheet):
+    """It stands behind the words, once there was one."""
+    a, old = SEASON["A"][0], "tell(); return document.querySelector('.signal').dataset.old || ''"
+    sheet.open("group=A")
+    assert sheet.run(old) == ""
+    sheet.take(a.line())
+    for seconds, told in (4, ""), (8, "12 s"), (30, "42 s"):
+        sheet.run(f"ahead += {seconds}")
+        assert sheet.run(old) == told
+    sheet.take(a.line())
+    assert sheet.run(old) == ""
 
 
 @pytest.mark.quick
@@ -479,6 +496,58 @@ def test_an_overlay_is_the_table_alone_on_a_transparent_ground(sheet, tmp_path):
 
 
 @pytest.mark.quick
+def test_an_overlay_says_when_its_picture_is_old(sheet):
+    """By a mark that covers nothing and moves nothing; or it is hidden as a whole."""
+    moment, seen = SEASON["A"][0], "return [...document.querySelectorAll('.signal, table')].map((it) => it.checkVisibility({checkVisibilityCSS: true}) && it.offsetHeight > 0)"
+    where = lambda name: sheet.run("const it = document.querySelector(arguments[0]).getBoundingClientRect(); return [it.left, it.top, it.right, it.bottom]", name)
+    for words, is_old, size in ("overlay", [True, True], LARGE), ("overlay", [True, True], (390, 844)), ("overlay&silent", [False, False], LARGE):
+        sheet.open(f"group=A&{words}", size)
+        sheet.run("tell()")
+        assert sheet.run(seen) == is_old
+        sheet.take(moment.line())
+        assert sheet.run(seen) == [False, True]
+        before = where("table")
+        sheet.run("ahead = 4; tell()")
+        assert sheet.run(seen) == [False, True]
+        sheet.run("ahead = 6; tell()")
+        assert sheet.run(seen) == is_old and where("table") == before
+        mark, table = where(".signal"), where("table")
+        if "silent" not in words:
+            assert table[0] < mark[0] and mark[2] < table[2] and table[1] < mark[1] and sheet.run("return inks().filter((ink) => !ink.parent.closest('header')).every((ink) => {"
+                "const it = where(document.querySelector('.signal')); return ink.right <= it.left || ink.left >= it.right || ink.bottom <= it.top || ink.top >= it.bottom; })")
+        sheet.take(SEASON["A"][1].line())
+        assert sheet.run(seen) == [False, True] and sheet.take()["A"] == SEASON["A"][1].shown()
+
+
+@pytest.mark.quick
+def test_an_overlay_without_a_group_on_a_server_of_several(sheet):
+    """It says so in one line, and shows no other than it did."""
+    line = lambda groups: HALL % ("Finals", groups, "{}")
+    choice = lambda: sheet.run("const it = document.getElementById('choice'); return it.offsetHeight > 0 ? it.textContent : ''")
+    a, b = (SEASON[group][0] for group in "AB")
+    sheet.open("overlay")
+    assert sheet.take(line("AB"), b.line(), a.line()) == {} and choice() == "Groups A, B: add &group=A to the address"
+    assert sheet.take(line("B"), a.line(), b.line()) == {"B": b.shown()} and choice() == ""
+    assert sheet.take(line("AB"), a.line(), SEASON["B"][1].line()) == {"B": SEASON["B"][1].shown()} and choice() != ""
+    for words, letters in ("overlay&group=b", "B"), ("overlay&wall", "AB"), ("", "AB"):
+        sheet.open(words)
+        assert [*sheet.take(line("AB"))] == [*letters] and choice() == ""
+
+
+@pytest.mark.quick
+def test_a_match_that_the_desk_kicks_off_is_listed(sheet):
+    """The server names the matches of the evening anew."""
+    moment = SEASON["A"][0]
+    first, second = moment.games
+    sheet.open("group=A")
+    line = lambda games: HALL % ("", "A", json.dumps({"A": games}))
+    assert sheet.take(line([first]), moment.line())["A"] == moment._replace(games=[first]).shown()
+    assert sheet.take(line([first, second]))["A"] == moment.shown()
+    sheet.take(SEASON["A"][1].line())
+    assert sheet.take(line([first, second]))["A"] == SEASON["A"][1].shown()
+
+
+@pytest.mark.quick
 def test_matches_that_are_over_stay_until_their_clubs_play_again(sheet):
     """A browser keeps them. One that has not shown the group knows those in play, and of the others one that must be of the evening."""
     first, second, third = SEASON["A"][:3], SEASON["A"][3:6], SEASON["A"][6:9]
@@ -503,38 +572,23 @@ def test_matches_that_are_over_stay_until_their_clubs_play_again(sheet):
 # ---- without a board
 
 
-def replayed():
-    """The lines of a matchday that the page replays: of each group the screen before matchday 6, and then an event of each group in turn."""
-    before, turns = [], []
-    for group in "ABCDEFGH":
-        roster, events = model.parsed(conftest.text_of(conftest.EXAMPLES / f"season_2021_22/group_{group.lower()}.csv"))
-        ends = [at for at, event in enumerate(events) if event[3] == "fulltime"]
-        last, matches = ends[-3] + 1, model.fresh()
-        one, other = ([event for event in events[last:] if event[1] == events[end][1]] for end in ends[-2:])
-        middle = [event for pair in itertools.zip_longest(one[1:-1], other[1:-1]) for event in pair if event]
-        lines = []
-        for at, (reporter, game, _, word) in enumerate([*events[:last], one[0], other[0], *middle, one[-1], other[-1]]):
-            matches[game - 1].enter(reporter, word)
-            members = model.Style(["--group", group]).json(matches, roster, 5 + at)
-            lines += [model.line_of({name: it for name, it in members.items() if name not in ("edition", "matches")})] if at >= last - 1 else []
-        before.append(lines[0])
-        turns.append(lines[1:])
-    return "".join([*before, *(line for turn in itertools.zip_longest(*turns) for line in turn if line)])
-
-
 @pytest.mark.quick
-def test_a_matchday_that_is_replayed(browser):
-    """Whoever has the page and a server of files sees all groups, which end as the season did."""
-    assert conftest.text_of(PAGE.parent / "replay.jsonl") == replayed()
+def test_seasons_that_are_replayed(browser):
+    """Whoever has the page and a server of files sees a matchday, or a season of a group or of all, which end as they did."""
     port = free_port()
+    shown = lambda: browser.execute_script(SHOWN + "return shown()")
+    ends = {year: {letter: season(letter, year)[-1].shown() for letter in seasons.LETTERS} for year in seasons.SEASONS}
+    asked = [("replay&wall", "2021-22", "ABCDEFGH"), ("replay&group=C", "2021-22", "C"), ("replay", "2021-22", "A"), ("replay=2022-23&wall", "2022-23", "ABCDEFGH")]
+    asked += [(f"replay={year}&group={letter}", year, letter) for year, letter in zip(seasons.SEASONS, "BHE")]
     with conftest.Started(["/usr/bin/python3", "-m", "http.server", "--bind", "127.0.0.1", str(port)], cwd=PAGE.parent) as server:
         until(lambda: not socket.socket().connect_ex(("127.0.0.1", port)))
-        for words, letters in ("wall", "ABCDEFGH"), ("group=C", "C"), ("", "A"):
-            browser.get(f"http://127.0.0.1:{port}/?replay&pace=1&details&{words}")
-            shown = lambda: browser.execute_script(SHOWN + "return shown()")
-            wanted = {letter: {**SEASON[letter][-1].shown(), "signal": "Replay"} for letter in letters}
-            until(lambda: shown() == wanted, 20)
-            assert shown() == wanted
+        for words, year, letters in asked:
+            browser.get(f"http://127.0.0.1:{port}/?{words}&pace=1&details")
+            wanted = {letter: {**ends[year][letter], "signal": "Replay"} for letter in letters}
+            until(lambda: shown() == wanted, 40)
+            assert shown() == wanted, words
+        browser.get(f"http://127.0.0.1:{port}/?replay=2020-21&group=A")
+        assert until(lambda: shown()["A"]["signal"] == "No recording", 20)
         server.kill()
 
 

@@ -215,15 +215,36 @@ def test_a_mend_while_a_finger_is_down(hall, phone):
     phone.enter("yellow-away")
 
 
+def test_a_second_phone_of_a_link(hall, browsers):
+    """Both say so. A page that is loaded again, or connects anew, is no other phone."""
+    one = hall("--reporter", "1")
+    first, second = (Phone(browsers(name), SIZES[name]) for name in ("small", "tablet"))
+    first.open(one)
+    assert first.line() == "Reporter 1, group A"
+    first.browser.refresh()
+    first.run(LOOKS)
+    assert until(first.is_online) and first.line() == "Reporter 1, group A"
+    second.open(one)
+    assert until(lambda: {first.line(), second.line()} == {"2 phones have this link. Reporter 1, group A"})
+    assert first.run("return faults()") == [] == second.run("return faults()")
+    first.run("open()")
+    assert until(first.is_online) and first.line() == "2 phones have this link. Reporter 1, group A"
+    second.browser.get("about:blank")
+    assert until(lambda: first.line() == "Reporter 1, group A")
+    time.sleep(1.2)
+    assert one.end(signal.SIGTERM).errors == "ucl_serve: reporter 1 has 2 phones\n"
+
+
 # ---- no connection
 
 
 @pytest.mark.parametrize("end", ["it is killed", "it goes on"])
 def test_the_server_is_stopped_and_then(hall, phone, end):
-    """All is grey, and nothing is sent nor queued. A tap without an answer is asked about, and is not sent again."""
+    """All is grey, and nothing is sent nor queued, whatever clock the phone has. A tap without an answer is asked about, and is not sent again."""
     one = hall("--reporter", "1")
     kicked_off(one)
     phone.open(one, 1, 1)
+    phone.run("Date.now = () => 0")
     assert phone.line() == "Reporter 1, group A"
     one.process.send_signal(signal.SIGSTOP)
     phone.tap("goal-home")
@@ -280,7 +301,7 @@ def test_what_cannot_be_now_says_why_and_what_is_grave_asks(hall, phone):
     phone.enter("kickoff", True)
     assert until(lambda: disabled() == {"kickoff", "reopen", "disallow-home", "disallow-away", "second-yellow-home", "second-yellow-away"})
     assert phone.note("disallow-home") == "No goal to take away" and phone.note("second-yellow-away") == "No yellow card yet"
-    for event, is_asked in ("yellow-away", False), ("second-yellow-away", False), ("red-home", True), ("fulltime", True), ("reopen", True), ("fulltime", True):
+    for event, is_asked in ("yellow-away", False), ("second-yellow-away", True), ("red-home", True), ("fulltime", True), ("reopen", True), ("fulltime", True):
         phone.enter(event, is_asked)
         time.sleep(1.1)
     assert phone.run("return ['home-cards', 'away-cards'].map((it) => document.getElementById(it).textContent)") == ["red 1", "red 1"]
@@ -392,7 +413,7 @@ def test_how_it_looks_at_each_size(hall, phone, scheme):
         assert phone.run("return faults()") == [], size
         phone.choose(2)
         number = phone.run("return matchOf(2).number")
-        phone.run("for (const event of ['goal-home', 'yellow-away', 'red-away']) { seen = {...look(event), number: 0, button: buttonOf(event)}; press(event, seen.button); }")
+        phone.run("for (const event of ['goal-home', 'yellow-away', 'red-away']) { seen = {...look(event), expected: 0, button: buttonOf(event)}; press(event, seen.button); }")
         phone.says("goal-home", "Not entered")
         assert phone.run("return faults()") == [] and phone.run("return matchOf(2).number") == number, size
         for part in "matches", "table":

@@ -141,7 +141,7 @@ def test_evenings(program, data):
 def test_followers(program, data):
     """`ucl_follow`, on lines of evenings of two groups, with mends, of which some are lost, doubled, turned round and torn."""
     draw = data.draw
-    words = ["--format", "json"] + draw(st.sampled_from([[], ["--screens"]]))
+    words = ["--format", "json"] + draw(st.sampled_from([["--screens"], ["--screens"], []]))
 
     def evening():
         rows = event_rows(draw(PICKS))

@@ -3,19 +3,18 @@
 import contextlib
 import fcntl
 import os
-import pathlib
 import random
 import re
 import signal
 import subprocess
-import termios
 import time
 
 import model
 import pytest
-from conftest import TOP, Run, Started, command, encoded, needs, text_of
-from model import ROSTER, Session, random_rows
-from terminals import Terminal
+from drivers.evening import Evening, evening_of, shown
+from drivers.program import Run, Started, children_of, command, needs
+from drivers.text import TOP, text_of
+from model import ROSTER, random_rows
 
 pytestmark = pytest.mark.limit(300)
 TITLE = "group,B,uefa,0\n"
@@ -23,79 +22,19 @@ BEGUN = TITLE + model.CLUBS
 STARTED = BEGUN + "1,1,0,kickoff\n1,1,1,goal-home\n1,1,2,goal-away\n"
 
 
-class Hall:
-    """A folder with the programs and a record."""
-
-    def __init__(self, path, live, record=None):
-        self.path, self.record, self.terminals = path, path / "evening.csv", []
-        # What stands before the program on its line, and what is around it.
-        self.before, self.env = [], {**os.environ, "UCL_LIVE": live}
-        if record is not None:
-            self.record.write_bytes(encoded(record))
-
-    def terminal(self, *words, **how):
-        """The program at a terminal, with these words more."""
-        env, shell = {**self.env, "TERM": "xterm", **how.pop("env", {})}, how.pop("shell", "").split()
-        self.terminals.append(Terminal(shell or [*self.before, "./ucl_reporter", *words, "evening.csv"], cwd=self.path, env=env, **how))
-        return self.terminals[-1]
-
-    def reporter(self, *words, **how):
-        """A reporter's terminal, once it has begun."""
-        return self.terminal(*words, **how).sees("Ctrl-D ends")
-
-    def run(self, *words, input="", env=None):
-        """The program without a terminal, to its end."""
-        return command([*self.before, "./ucl_reporter", "evening.csv", *words], input, cwd=self.path, env={**self.env, **(env or {})})
-
-    def rows(self):
-        """The rows of the record."""
-        return re.findall(r"[^\n]*\n|[^\n]+$", text_of(self.record))
-
-    def evening(self):
-        """The board of the record by the rules, and the answers to its rows."""
-        return evening_of(text_of(self.record))
-
-    def table(self):
-        """The table of the record by the rules, as it is shown."""
-        return shown(self.evening()[0])
-
-    def watched(self):
-        """The table that is shown first, to who only looks; `seconds` is what a processor took until then."""
-        with subprocess.Popen(["./ucl_reporter", "--watch", "evening.csv"], cwd=self.path, env=self.env, stdin=subprocess.DEVNULL, stdout=subprocess.PIPE) as watch:
-            lines = "".join(watch.stdout.readline().decode() for _ in range(6))
-            ticks = text_of(pathlib.Path(f"/proc/{watch.pid}/stat")).rpartition(")")[2].split()[11:13]
-            watch.kill()
-        self.seconds = sum(map(int, ticks)) / os.sysconf("SC_CLK_TCK")
-        return lines
-
-
-def evening_of(text):
-    """The board of a record by the rules, and the answers to its rows."""
-    evening = Session([])
-    lines = text.split("\n")[:-1]
-    return evening, [answer for row, line in enumerate(lines, 1) for answer in evening.answers(row, line)]
-
-
-def shown(evening):
-    """The table of a board, as it is shown."""
-    title, *rest = evening.style.screen(evening.matches or model.fresh(), evening.roster).splitlines(True)
-    return "".join([title.rstrip() + (f" EDITION {evening.style.edition}" if evening.style.edition else "") + "\n", *rest])
-
-
 @pytest.fixture
 def hall(tmp_path, live):
     """A function that makes a folder with the program and a record."""
-    (tmp_path / "ucl_reporter").symlink_to(TOP / "ucl_reporter")
-    halls = []
-    yield lambda record=None: halls.append(Hall(tmp_path, live, record)) or halls[-1]
-    for terminal in (it for hall in halls for it in hall.terminals):
-        terminal.kill()
-
+    evenings = []
+    yield lambda record=None: evenings.append(Evening(tmp_path, live, record)) or evenings[-1]
+    for one in evenings:
+        one.kill()
 
 
 # ---- one reporter
 
 
+@pytest.mark.quick
 def test_the_first_evening(hall):
     """From nothing: what is asked, the record that is made, a match, its table; and the same line goes on the next day."""
     first = hall()
@@ -142,6 +81,7 @@ REFUSALS = {
 LIMIT = STARTED.splitlines(True)[:5] + ["7,1,0,kickoff\n", "7,1,1,goal-home\n", "7,3,0,kickoff\n", "7,3,1,fulltime\n", "7,4,0,kickoff\n", *(f"7,4,{n},red-home\n" for n in range(1, 32))]
 
 
+@pytest.mark.quick
 def test_what_is_refused_is_told_with_what_to_do(hall):
     """Each by a sentence, and none changes the board."""
     refused = hall("".join(LIMIT))
@@ -164,6 +104,7 @@ def test_keys(hall):
     assert one.end("\r\r\x04") == 0 and len(keys.rows()) == 13 and one.is_as_before()
 
 
+@pytest.mark.quick
 def test_what_is_entered_goes_with_what_was_seen(hall):
     """A line goes with the moment at its first letter, also if it was recalled or completed; one that was emptied begins anew."""
     seen = hall(STARTED)
@@ -176,6 +117,7 @@ def test_what_is_entered_goes_with_what_was_seen(hall):
     two.type("1 goal").sees("> 1 goal")
     one.enter("1 goal away", "entered, row 12")
     two.sees("row 12").type("\x15").sees(">").type("1 goal home\r").sees("1 goal home             entered, row 13")
+    one.sees("row 13")
     two.type("1 y\t").sees("> 1 yellow").type("\t").sees("> 1 yellow home")
     one.enter("1 goal away", "entered, row 14")
     two.sees("row 14").type("\r").sees("1 yellow home           refused: match 1 has event number 8 by now, and you had seen 7")
@@ -227,7 +169,8 @@ def test_whatever_is_typed(hall):
     one = odd.reporter().sees("12 Delta")
     for number in range(120):
         one.type(" ".join(chance.choices(words, k=chance.choice([1, 1, 2, 3, 3, 3, 4, 5]))) + "\r")
-        one.read(0.05)
+        while one.read(0.02):
+            pass
     one.type("\x15\rn\r\x15").board()
     one.enter("mend", "would begin").enter("y", " has begun")
     assert one.end() == 0 and "Traceback" not in one.text() and one.is_as_before()
@@ -274,6 +217,7 @@ def test_two_who_type_one_goal(hall):
     assert one.board() == two.board() and one.board().startswith(both.table())
 
 
+@pytest.mark.quick
 def test_a_goal_that_is_typed_while_another_mends(hall):
     """Its number fits by chance; it is dropped, and not counted twice."""
     both = hall(STARTED + "2,1,3,goal-home\n")
@@ -287,46 +231,6 @@ def test_a_goal_that_is_typed_while_another_mends(hall):
     assert two.board().startswith(both.table()) and "Bravo 1-1 Charlie" in two.board()
 
 
-@pytest.mark.parametrize("row", ["mend,7,,\n", '"mend","007","",""\r\n', '"me"nd,7,,\n', "\r\rmend,7,,\n", "mend,,1,\n", 'club,1,Other,"1"\n'])
-def test_an_edition_of_which_no_screen_has_come(hall, row):
-    """It is seen under the lock, however its row is written: a row that was typed before it is not entered."""
-    late = hall(STARTED)
-    one = late.reporter().sees("12 Delta")
-    one.board()
-    one.process.send_signal(signal.SIGSTOP)
-    one.type("1 goal home\r")
-    with open(late.record, "a") as file:
-        file.write(row)
-    one.process.send_signal(signal.SIGCONT)
-    one.sees("Edition 1 has begun").sees("EDITION 1").sees("1 goal home             dropped: edition 1 has begun").end()
-    assert late.rows()[8:] == [row]
-
-
-@pytest.mark.parametrize("row", ["group,B,uefa,0\n", "group,A,uefa,1\n", "group,B,away-in-tie,1\n", "group,B,uefa,65536\n", "group,B,uefa,1,\n", "club,5,Other,1\n", "mend,0,,\n", "mend,7\n"])
-def test_rows_that_begin_no_edition(hall, row):
-    """They are bad rows, and nobody is hindered."""
-    other = hall(STARTED + row)
-    one = other.reporter().sees("12 Delta").enter("1 red away", "entered, row 10")
-    assert one.board().startswith(other.table()) and "EDITION" not in one.board()
-
-
-def test_two_who_mend_at_once(hall):
-    """The second is shown what it would be by now, and asked again."""
-    both = hall(STARTED)
-    one, two, three = (both.reporter("--number", number).sees("12 Delta") for number in "123")
-    one.enter("mend 7", "would begin")
-    two.enter("club 2 Real Madrid", "would begin")
-    three.enter("mend 7", "would begin")
-    one.enter("y", "Edition 1 has begun")
-    two.enter("y", "rows have come since, so look at it again").sees("edition 2 would begin")
-    assert "Real Madrid" not in text_of(both.record)
-    three.enter("y", "it is no event that stands")
-    two.enter("y", "Edition 2 has begun")
-    assert both.rows()[8:] == ["mend,7,,\n", 'club,2,Real Madrid,"95000"\n']
-    one.sees("Edition 2 has begun")
-    assert one.board() == two.board() and one.board().startswith(both.table())
-
-
 def test_a_goal_that_comes_while_it_is_asked(hall):
     """No answered row is lost: what the mend leaves out is as it was asked about, so it is appended; and what came is on the board."""
     both = hall(STARTED)
@@ -336,19 +240,6 @@ def test_a_goal_that_comes_while_it_is_asked(hall):
     two.enter("1 goal away", "entered, row 9")
     one.enter("y", "mend 7                  entered, row 10")
     assert both.rows()[8:] == ["2,1,3,goal-away\n", "mend,7,,\n"] and "Bravo 0-2 Charlie" in one.board()
-
-
-def test_a_goal_that_a_mend_would_leave_out_comes_while_it_is_asked(hall):
-    """It is asked again, with that event named; what was left out is told as lines that bring it back."""
-    both = hall(STARTED)
-    one, two = both.reporter().sees("12 Delta"), both.reporter("--number", "2").sees("12 Delta")
-    one.enter("mend 7", "would begin").sees("append it? y or n>")
-    two.enter("1 disallow home", "entered, row 9")
-    one.enter("y", "rows have come since").sees("left out too, no-goal: row 9: 1 disallow home by 2")
-    assert len(both.rows()) == 9
-    one.enter("yes", "mend 7                  entered, row 10").sees("To have back what was left out too")
-    two.sees("Edition 1 has begun").sees("1 disallow home\n")
-    assert both.rows()[9:] == ["mend,7,,\n"] and one.board().startswith(both.table())
 
 
 MISTAKES = [
@@ -386,6 +277,7 @@ def test_a_matchday_with_mistakes(hall):
 # ---- without a terminal
 
 
+@pytest.mark.quick
 def test_rows_with_their_numbers(hall):
     """What the board has is passed over, so the same rows may be given again; the first that is refused ends the run, and nothing after it is entered."""
     rows = hall(STARTED)
@@ -412,16 +304,13 @@ def test_command_lines_and_files(hall):
     words = hall()
     assert words.run("--help").output.startswith("usage: ucl_reporter RECORD [--number N]") and words.run("--number", "256").status == 2 and words.run("--matches", "0").status == 2
     for line in (
-        "--yes", "--watch --mend 7", "--watch --number 3", "--again 2", "--limit 2", "--broker a", "--watch --yes", "--mend 7 --number 2", "--number 0", "--number " + "1" * 5_000, "--matches 1,,2", "--edition 65536", "--edition x",
+        "--yes", "--watch --mend 7", "--watch --number 3", "--broker a", "--watch --yes", "--mend 7 --number 2", "--number 0", "--number " + "1" * 5_000, "--matches 1,,2", "--edition 65536", "--edition x",
         "--watch --edition 1"):
         ran = words.run(*line.split())
         assert ran.status == 2 and ran.errors.startswith("usage: ") and "Traceback" not in ran.errors, line
-    for line in "--broker a --again 0", "--broker a --limit nan", "--broker a --watch", "--broker i", "--broker a --mend 7", "":
-        assert command(["./ucl_reporter", *line.split()], cwd=words.path).status == 2
+    assert command(["./ucl_reporter"], cwd=words.path).status == 2
     assert words.run() == words.run("--mend", "7") == Run(1, "", "ucl_reporter: there is no evening.csv; type ./ucl_reporter evening.csv at a terminal to begin it\n")
-    for text, fault in ("", "row 1"), (TITLE + "1,1,0,kickoff\n", "row 2"), ("not a record\n", "row 1"), ("\0\xff\n", "row 1"):
-        assert hall(text).run().errors == f"ucl_reporter: evening.csv has no board, or ucl_live failed: input refused 20: {fault}\n"
-    assert "line 9 begins another edition by a row of the group" in hall(STARTED + "group,B,uefa,1\n").run(input="1 red home\n").errors
+    assert hall("not a record\n").run().errors == "ucl_reporter: evening.csv has no board, or ucl_live failed: input refused 20: row 1\n"
     assert hall(STARTED).run(env={"UCL_LIVE": "/none/ucl_live"}).errors == "ucl_reporter: evening.csv has no board, or ucl_live failed: /none/ucl_live: No such file or directory\n"
     ascii_alone = hall(STARTED).run(input="club é\n", env={"PYTHONIOENCODING": "ascii"})
     assert ascii_alone.status == 1 and "Traceback" not in ascii_alone.errors
@@ -450,18 +339,15 @@ def test_a_sheet(hall):
 
 
 def test_without_the_libraries(hall):
-    """Where no terminal and no broker is asked for, neither is needed; else one line says what to install."""
+    """Where no terminal is asked for, none is needed; else one line says what to install."""
     lacks = hall(STARTED)
-    for name in "prompt_toolkit", "paho":
-        (lacks.path / "lib" / name).mkdir(parents=True)
-        (lacks.path / "lib" / name / "__init__.py").write_text("raise ImportError('not here')\n")
+    (lacks.path / "lib/prompt_toolkit").mkdir(parents=True)
+    (lacks.path / "lib/prompt_toolkit/__init__.py").write_text("raise ImportError('not here')\n")
     env = {"PYTHONPATH": str(lacks.path / "lib")}
     assert lacks.run(input="1 red home\n", env=env).output.startswith("1 red home              entered, row 9")
     assert lacks.run("--mend", "7", "--yes", env=env).status == 0
     one = lacks.terminal(env=env).sees("there is no prompt_toolkit: apt install python3-prompt-toolkit")
     assert one.ends() == 1 and "Traceback" not in one.text() and one.is_as_before()
-    told = command(["./ucl_reporter", "--broker", "a"], cwd=lacks.path, env={**lacks.env, **env})
-    assert told == Run(1, "", "there is no paho-mqtt: apt install python3-paho-mqtt\n")
 
 
 def test_mend_at_a_terminal(hall):
@@ -519,25 +405,6 @@ def test_who_may_only_read_looks_on(hall):
 # ---- the lock, the disk, and what else is written into a record
 
 
-def test_who_appends_waits_for_the_lock_and_is_told(hall):
-    """Nothing is appended while another has the lock; after two seconds that is told; nothing that is asked holds it, and Ctrl-D ends meanwhile."""
-    held = hall(STARTED)
-    one = held.reporter().sees("12 Delta")
-    with open(held.record) as file:
-        fcntl.flock(file, fcntl.LOCK_EX)
-        one.type("1 goal home\r")
-        time.sleep(0.5)
-        assert text_of(held.record) == STARTED
-        fcntl.flock(file, fcntl.LOCK_UN)
-        one.sees("entered, row 9")
-        one.enter("mend 7", "would begin")
-        fcntl.flock(file, fcntl.LOCK_EX | fcntl.LOCK_NB)
-        one.enter("y", "another program holds the lock of evening.csv")
-        one.enter("1 goal home", "another program holds the lock of evening.csv").type("1 goal away\r")
-        begun = time.monotonic()
-        assert one.end() == 0 and time.monotonic() - begun < 5 and len(held.rows()) == 9 and one.is_as_before()
-
-
 def traced(hall, inject, *words, input=""):
     """A run in which calls of the system fail, and the calls that it made for its files."""
     needs("strace")
@@ -559,57 +426,6 @@ def test_rows_are_forced_to_the_disk_under_the_lock_before_they_are_answered(hal
         for place in writes:
             assert kinds[place - 1 : place + 2] == ["fallocate", "write", "fsync"] and "LOCK_UN" in calls[place + 2] and "LOCK_EX" in [it for it in calls[:place] if it.startswith("flock")][-1]
             assert "show" not in kinds[place : place + 3]
-
-
-def test_a_disk_that_fails(hall):
-    """`fsync` fails: it may be in the record. The write fails: nothing was entered. The call that reserves space is not there: the row is written."""
-    failed = hall(STARTED)
-    ran, _ = traced(failed, ["-e", "inject=fsync:error=EIO:when=1"], input="1 red home\n2 kickoff\n")
-    assert ran.status == 1 and ran.errors.startswith("ucl_reporter: 1 red home: the disk fails: Input/output error: it may be in the record: look at the match before you type again"), ran
-    assert failed.rows()[8:] == ["1,1,3,red-home\n"]
-    failed = hall(STARTED)
-    ran, _ = traced(failed, ["-e", "inject=fallocate:error=ENOSPC"], input="1 red home\n")
-    assert ran.status == 1 and "1 red home: the disk is full: nothing was entered" in ran.errors and text_of(failed.record) == STARTED
-    for fault in "ENOSYS", "EOPNOTSUPP":
-        ran, _ = traced(hall(STARTED), ["-e", f"inject=fallocate:error={fault}"], input="1 red home\n")
-        assert ran.output.startswith("1 red home              entered, row 9"), ran
-
-
-@pytest.mark.parametrize("when", [1, 2])
-def test_a_new_record_is_forced_to_the_disk_with_its_folder(hall, when):
-    """If that fails it is told, in a line."""
-    needs("strace")
-    new = hall()
-    new.before = ["strace", "-f", "-o", str(new.path / "calls"), "-e", "trace=fsync", "-e", f"inject=fsync:error=EIO:when={when}"]
-    one = new.terminal().sees("group").enter("", "Order").enter("", "slot 1")
-    for name in "KLMN":
-        one.enter(name, "coefficient").enter("", "slot" if name != "N" else "ucl_reporter: ")
-    one.ends()
-    assert "Input/output error" in one.text() and "Traceback" not in one.text() and text_of(new.path / "calls").count("fsync(") == when
-    assert not [*new.path.glob(".evening*")] and new.record.exists() is (when == 2)
-
-
-def test_a_last_line_that_was_cut_off(hall):
-    """It gets an end first, and stands on the board where it was whole but for that."""
-    for cut, count in ("1,1,3,goal-ho", 3), ("1,1,3,goal-home", 4), ("x", 3):
-        torn = hall(STARTED + cut)
-        ran = torn.run(input="2 kickoff\n")
-        assert ran.output.startswith("2 kickoff               entered, row 10: ") and text_of(torn.record) == STARTED + cut + "\n1,2,0,kickoff\n"
-        assert torn.evening()[0].matches[0].number == count
-        torn = hall(STARTED + cut)
-        assert torn.run("--mend", "7", "--yes").status == 0 and torn.evening()[0].matches[0].number == count - 1
-
-
-def test_what_else_stands_in_a_record(hall):
-    """Bytes that are no text, rows in quotes, long lines, readings, empty lines: they are as `ucl_live` has them."""
-    odd = '\xff\xfe\n"1","1",3,"goal-home"\n\n\r\n' + "x" * 9000 + '\nscreen,,,\nmatches,,,\n1,1,4,"goal-home\n001,01,00004,red-home\r\n"row":9,"reply":"ok"\n'
-    other = hall(STARTED + odd)
-    one = other.reporter().sees("12 Delta").enter("1 red home", "entered, row 19: Bravo 2-1 Charlie, in play, event 6 by 1, E 2-0")
-    with open(other.record, "ab") as file:
-        file.write(b"\xff\x00\n1,1,6,goal-away\n")
-    one.sees("row 21: 1 goal away by reporter 1").enter("1 red away", "entered, row 22")
-    assert one.board().startswith(other.table())
-    assert other.run("--mend", "7", "--yes").status == 0 and one.sees("EDITION 1").board().startswith(other.table())
 
 
 def test_a_record_that_becomes_another(hall):
@@ -698,13 +514,16 @@ def test_it_is_suspended_in_the_middle_of_a_question_or_an_append(hall, typed, s
     one.sees(told).sees("stopped\n").type("fg; stty -a >after; echo ov''er\r").sees("./ucl_reporter evening.csv\n", 2)
     if "mend" in typed:
         one.enter("y", "Edition 1 has begun")
+    # It reads again once all is drawn: a key that comes before may be lost to the shell.
+    while one.read(1):
+        pass
     one.type("\x04").sees("over\n")
     assert len({text_of(held.path / name) for name in ("before", "stopped", "after")}) == 1 and len(held.rows()) == 9
 
 
 def child_named(parent, name):
     """The process that this one has started, of a command line with this name."""
-    return next(pid for pid in pids_below(parent) if name in text_of(f"/proc/{pid}/cmdline"))
+    return next(pid for pid in children_of(parent) if name in text_of(f"/proc/{pid}/cmdline"))
 
 
 # ---- a full board, and kills
@@ -724,22 +543,13 @@ def test_a_full_board(hall):
     assert full.run("--mend", "7", "--yes").status == 0 and full.rows()[-1] == "mend,7,,\n"
 
 
-def pids_below(process):
-    """The processes that a process has started."""
-    found = []
-    for task in pathlib.Path(f"/proc/{process}/task").glob("*"):
-        with contextlib.suppress(OSError):
-            found += [int(pid) for pid in (task / "children").read_text().split()]
-    return found
-
-
 def killed_once(hall, chance, rows, start):
     """Gives rows to the program, and kills it, or its `ucl_live` first, in about the time that a start takes. What it wrote and told."""
     pipes = dict.fromkeys(("stdin", "stdout", "stderr"), subprocess.PIPE)
     with subprocess.Popen(["./ucl_reporter", "evening.csv"], cwd=hall.path, env=hall.env, bufsize=0, **pipes) as started:
         started.stdin.write("".join(rows).encode())
         time.sleep(chance.uniform(0.3, 1.5) * start)
-        for pid in pids_below(started.pid) if chance.random() < 0.5 else []:
+        for pid in children_of(started.pid) if chance.random() < 0.5 else []:
             with contextlib.suppress(OSError):
                 os.kill(pid, signal.SIGKILL)
             time.sleep(chance.uniform(0, 0.5 * start))
@@ -765,16 +575,3 @@ def test_kills(hall, part, seed, kills):
     assert all(lines[row - 1].strip() == text and row in accepted for row, text in answered.items()) and killed.watched() == killed.table(), seed
     print(f"seed {seed}: {kills // 4} kills, {len(answered)} rows answered")
     assert len(answered) > kills // 8
-
-
-def test_ucl_live_is_killed_at_a_terminal(hall):
-    """It is started again, nothing is missing, and no table is shown that is older than one before."""
-    shot = hall(BEGUN + "".join(random_rows(random.Random(3), 200)))
-    one = shot.reporter("--number", "9").sees("12 Delta")
-    for number in range(206, 211):
-        for pid in pids_below(one.process.pid):
-            os.kill(pid, signal.SIGKILL)
-        one.enter("result", "this is no event")
-        shot.run("--number", "8", input="12 disallow home\n" if number % 2 else "12 goal home\n")
-        one.sees(f"row {number}: 12 ")
-    assert one.board().startswith(shot.table()) and one.drawn == sorted(one.drawn) and one.drawn[-1] > "00203"

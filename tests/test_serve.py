@@ -11,186 +11,28 @@ import re
 import resource
 import signal
 import socket
-import struct
-import subprocess
 import time
 
-import conftest
 import model
 import pytest
-from conftest import TOP, Started, command, free_port, text_of
-from terminals import Terminal
+from conftest import hall as hall
+from drivers.port import free_port
+from drivers.program import Started, command
+from drivers.server import CLUBS, SERVE
+from drivers.terminal import Terminal
+from drivers.text import TOP, text_of
+from drivers.wait import until
+from drivers.websocket import Socket
 
 pytestmark = pytest.mark.limit(200)
-SERVE = TOP / "ucl_serve"
-CLUBS = conftest.EXAMPLES / "one_goal.csv"
 HEADERS = {"cache-control": "no-store", "referrer-policy": "no-referrer", "x-content-type-options": "nosniff"}
 NOTHING = "default-src 'none'; frame-ancestors 'none'; base-uri 'none'; form-action 'none'"
-
-
-def until(holds, seconds=10):
-    """Waits until something holds, so long at most. Gives whether it does."""
-    end = time.monotonic() + seconds
-    while not (value := holds()) and time.monotonic() < end:
-        time.sleep(0.01)
-    return value
-
-
-# ---- a server, and who connects to it
-
-
-class Hall:
-    """A server of some records in a folder."""
-
-    def __init__(self, folder, live, *words, records=("a.csv",), **how):
-        self.folder, self.port, self.records, self.words = folder, free_port(), records, words
-        self.how = {"cwd": folder, "env": {**os.environ, "UCL_LIVE": str(live)}, **how}
-        self.start()
-
-    def start(self, *more):
-        """Starts it, and waits until it listens."""
-        clubs = [word for _ in self.records for word in ("--clubs", CLUBS)]
-        self.process = Started([SERVE, *self.records, *clubs, "--listen", f"127.0.0.1:{self.port}", *self.words, *more], **self.how)
-        self.printed = self.process.lines(2)
-
-    def end(self, number=signal.SIGKILL):
-        """Ends it by a signal. Gives its status, and what it wrote besides."""
-        self.process.send_signal(number)
-        return self.process.end()
-
-    def key(self, number, record="a.csv"):
-        """The key of a reporter."""
-        return dict(line.split() for line in text_of(self.folder / f"{record}.keys").splitlines() if line)[str(number)]
-
-    def get(self, path, *headers):
-        """The status, the headers and the body of an answer."""
-        with socket.create_connection(("127.0.0.1", self.port), 10) as one:
-            one.sendall("\r\n".join([f"GET {path} HTTP/1.1", f"Host: 127.0.0.1:{self.port}", *headers, "", ""]).encode())
-            answer = b"".join(iter(lambda: one.recv(1 << 16), b""))
-        head, _, body = answer.partition(b"\r\n\r\n")
-        status, *lines = head.decode().split("\r\n")
-        return int(status.split()[1]), {line.split(": ")[0].lower(): line.split(": ", 1)[1] for line in lines}, body.decode()
-
-    def health(self):
-        """What it tells whoever watches it."""
-        return json.loads(self.get("/health")[2])
-
-    def screen(self, **how):
-        """A screen."""
-        return Socket(self.port, "/lines", **how)
-
-    def phone(self, number, record="a.csv"):
-        """A phone of a reporter, with what it is greeted with."""
-        phone = Socket(self.port, f"/report/{self.key(number, record)}/taps")
-        assert phone.until("recent")
-        return phone
-
-    def rows(self, record="a.csv"):
-        """The rows after the clubs."""
-        return text_of(self.folder / record).splitlines()[5:]
-
-    def live(self):
-        """The processes of `ucl_live` that it has."""
-        children = pathlib.Path(f"/proc/{self.process.pid}/task/{self.process.pid}/children").read_text()
-        return [int(it) for it in children.split()]
-
-
-class Socket:
-    """A WebSocket, by hand: so it can also send what no browser does, and read nothing."""
-
-    def __init__(self, port, path, origin=None, room=None):
-        self.socket = socket.socket()
-        if room:
-            self.socket.setsockopt(socket.SOL_SOCKET, socket.SO_RCVBUF, room)
-        self.socket.settimeout(15)
-        self.socket.connect(("127.0.0.1", port))
-        self.rest, self.lines, self.closed = b"", [], None
-        origin = f"http://127.0.0.1:{port}" if origin is None else origin
-        lines = [f"GET {path} HTTP/1.1", f"Host: 127.0.0.1:{port}", "Upgrade: websocket", "Connection: Upgrade", "Sec-WebSocket-Version: 13"]
-        lines += ["Sec-WebSocket-Key: dGhlIHNhbXBsZSBub25jZQ==", *[f"Origin: {origin}"] * bool(origin), "", ""]
-        self.socket.sendall("\r\n".join(lines).encode())
-        while b"\r\n\r\n" not in self.rest and (piece := self.socket.recv(1 << 16)):
-            self.rest += piece
-        head, _, self.rest = self.rest.partition(b"\r\n\r\n")
-        self.status = int(head.split()[1])
-
-    def send(self, text, opcode=0x81, mask=b"\1\2\3\4"):
-        """Sends a frame."""
-        data = text if isinstance(text, bytes) else text.encode()
-        size = bytes([0x80 | len(data)]) if len(data) < 126 else b"\xfe" + struct.pack("!H", len(data))
-        self.socket.sendall(bytes([opcode]) + size + mask + bytes(byte ^ mask[at % 4] for at, byte in enumerate(data)))
-
-    def receive(self):
-        """The next line, as its members; None where the connection is closed."""
-        while True:
-            need = 2
-            if len(self.rest) >= 2:
-                short = self.rest[1] & 127
-                head = {126: 4, 127: 10}.get(short, 2)
-                size = short if head == 2 else int.from_bytes(self.rest[2:head], "big") if len(self.rest) >= head else 0
-                need = head + size
-                if len(self.rest) >= max(head, need):
-                    opcode, data, self.rest = self.rest[0], self.rest[head:need], self.rest[need:]
-                    if opcode == 0x88:
-                        self.closed = int.from_bytes(data[:2], "big")
-                        return None
-                    if opcode == 0x81:
-                        self.lines.append(json.loads(data))
-                        return self.lines[-1]
-                    continue
-            try:
-                piece = self.socket.recv(1 << 16)
-            except ConnectionError:
-                piece = b""
-            if not piece:
-                return None
-            self.rest += piece
-
-    def until(self, reply, **members):
-        """The next line of this kind with these members."""
-        while said := self.receive():
-            if said["reply"] == reply and all(said.get(name) == it for name, it in members.items()):
-                return said
-        return None
-
-    def tap(self, match, number, event, name="tap", edition=0, id=None):
-        """Sends a tap, and gives its id."""
-        id = id or os.urandom(16).hex()
-        self.send(json.dumps({name: id, "edition": edition, "match": match, "number": number, "event": event}))
-        return id
-
-    def answer(self, *words, **how):
-        """Sends a tap, and gives the name of its answer."""
-        return self.until("answer", id=self.tap(*words, **how))["name"]
-
-    def is_closed(self):
-        """Whether the server closes it, whatever it sends before."""
-        with contextlib.suppress(TimeoutError):
-            while self.receive():
-                pass
-            return True
-        return False
-
-
-@pytest.fixture
-def hall(tmp_path, live):
-    """A function that starts a server in the test's folder."""
-    conftest.command(["/usr/bin/python3", "-c", "import aiohttp"]).status and pytest.skip("not installed: python3-aiohttp")
-    halls = []
-
-    def started(*words, **how):
-        halls.append(Hall(tmp_path, live, *words, **how))
-        return halls[-1]
-
-    yield started
-    for one in halls:
-        one.process.kill()
-        one.process.wait()
 
 
 # ---- what it prints, and how it ends
 
 
+@pytest.mark.quick
 def test_what_it_prints_and_the_links(hall):
     """No key comes where the output may be kept; the links are told to who may read the file of keys, which nobody else may."""
     one = hall("--reporter", "1", "--reporter", "7:5,6", "--title", "Finals")
@@ -207,14 +49,109 @@ def test_what_it_prints_and_the_links(hall):
 
 
 def test_keys_stay_after_a_kill_and_end_with_new_ones(hall):
-    one = hall("--reporter", "1")
-    before = one.key(1)
+    """Of one reporter, or of all, also of those who are not named; a key that has ended is nowhere."""
+    one = hall("--reporter", "1", "--reporter", "2")
+    first, second = one.key(1), one.key(2)
     one.end()
-    one.start("--reporter", "2")
-    assert one.key(1) == before != one.key(2)
+    one.start("--reporter", "3")
+    assert (one.key(1), one.key(2)) == (first, second) and one.key(3) not in (first, second)
     one.end()
+    one.start("--revoke", "1", "--revoke", "3")
+    third = one.key(1)
+    assert third != first and one.key(2) == second and one.get(f"/report/{first}")[0] == 404 and one.get(f"/report/{third}")[0] == 200
+    assert text_of(one.folder / "a.csv.keys") == f"1 {third}\n2 {second}\n" and (one.folder / "a.csv.keys").stat().st_mode & 0o777 == 0o600
+    one.end()
+    one.words = ["--reporter", "1"]
     one.start("--new-keys")
-    assert one.key(1) != before and one.get(f"/report/{before}")[0] == 404 and one.get(f"/report/{one.key(1)}")[0] == 200
+    assert text_of(one.folder / "a.csv.keys") == f"1 {one.key(1)}\n" and one.key(1) != third
+    assert sorted(it.name for it in one.folder.glob("*.keys")) == ["a.csv.keys"]
+
+
+def test_keys_of_older_records_and_files_that_are_none(hall, live, tmp_path):
+    """Of two lines of a number the later counts, and one that was cut off is none. Who serves it has the lock of the file that is there, also once it is new."""
+    old, new = "0" * 32, "1" * 32
+    (tmp_path / "a.csv.keys").write_text(f"1 {old}\n2 {old}\n\n1 {new}\n2 {new[1:]}")
+    (tmp_path / "a.csv.keys").chmod(0o600)
+    one = hall("--reporter", "1", "--reporter", "2", "--reporter", "3")
+    assert (one.key(1), one.key(2)) == (new, old) and refused(tmp_path, live, "a.csv") == (1, "ucl_serve: a.csv is served already\n")
+    one.end()
+    os.rename(tmp_path / "a.csv.keys", tmp_path / "kept")
+    for make in os.mkfifo, lambda path: os.truncate(os.open(path, os.O_CREAT | os.O_WRONLY, 0o600), 2 << 20):
+        make(tmp_path / "a.csv.keys")
+        assert refused(tmp_path, live, "--links", "a.csv") == (1, "ucl_serve: a.csv.keys is no file of keys\n")
+        assert refused(tmp_path, live, "a.csv") == (1, "ucl_serve: a.csv.keys is no file of keys\n")
+        (tmp_path / "a.csv.keys").unlink()
+
+
+def test_what_is_said_of_one_group(hall, live, tmp_path):
+    """A reporter of one record, its matches, its links, and the matches of the evening."""
+    words = ["--reporter", "1:1,2", "--reporter", "b/2:3,4", "--reporter", "B/1:5"]
+    one = hall(*words, "--tonight", "B/7", records=("a.csv", "b.csv"))
+    assert [*one.health()["groups"]["A"]["phones"]] == ["1"] and [*one.health()["groups"]["B"]["phones"]] == ["1", "2"]
+    assert [one.phone(*it).lines[0]["matches"] for it in ((1,), (1, "b.csv"), (2, "b.csv"))] == [[1, 2], [5], [3, 4]]
+    assert one.screen().receive()["tonight"] == {"A": [1, 2], "B": [7]}
+    before = one.key(1), one.key(1, "b.csv")
+    one.end()
+    one.start("--revoke", "B/1")
+    assert one.key(1) == before[0] and one.key(1, "b.csv") != before[1]
+    one.end()
+    kept = text_of(tmp_path / "a.csv.keys")
+    for word in "C/1", "C/1:3":
+        assert refused(tmp_path, live, "a.csv", "--new-keys", "--reporter", word) == (2, "ucl_serve: no record is of group C\n")
+    for words in ["--reporter", "I/1"], ["--reporter", "B/"], ["--reporter", "B/1:"], ["--tonight", "0"], ["--tonight", "B/"], ["--revoke", "x"], ["--revoke", "1:2"]:
+        assert refused(tmp_path, live, "a.csv", *words)[0] == 2
+    assert text_of(tmp_path / "a.csv.keys") == kept
+
+
+def test_the_matches_of_the_evening(hall):
+    """Those of the reporters, and each that is in play or has changed since the start; screens hear of it. With a reporter of all matches pages see to it."""
+    one = hall("--reporter", "1:2")
+    with open(one.folder / "a.csv", "a") as record:
+        record.write("9,3,0,kickoff\n9,3,1,fulltime\n9,4,0,kickoff\n")
+    assert until(lambda: one.health()["groups"]["A"]["version"] == 3)
+    one.end()
+    one.start()
+    screen = one.screen()
+    assert screen.receive()["tonight"] == {"A": [2, 4]}
+    with open(one.folder / "a.csv", "a") as record:
+        record.write("9,5,0,kickoff\n9,5,1,fulltime\n9,4,1,fulltime\n")
+    assert screen.until("hall")["tonight"] == {"A": [2, 4, 5]} == one.screen().receive()["tonight"]
+    with open(one.folder / "a.csv", "a") as record:
+        record.write("mend,9,,\n")
+    assert screen.until("hall")["tonight"] == {"A": [2, 4]}
+    one.end()
+    one.words = []
+    one.start()
+    assert one.screen().receive()["tonight"] == {}
+
+
+@pytest.mark.quick
+def test_a_code_for_each_address(monkeypatch, capsys):
+    """That of the default route first; before them that who sees one can enter events."""
+    from ucl_hall.web import command, links, options
+
+    class Adapter:
+        ips = [type("IP", (), {"ip": it}) for it in ("127.0.0.1", ("fd00::2", 0, 0), "192.168.1.5", "10.0.0.7")]
+
+    monkeypatch.setattr("ifaddr.get_adapters", lambda: [Adapter])
+    monkeypatch.setattr(links, "_of_default_route", lambda: ["10.0.0.7"])
+    assert links.hosts_of("0.0.0.0") == ["10.0.0.7", "192.168.1.5"] and links.hosts_of("hall.local") == ["hall.local"]
+    monkeypatch.setattr("sys.stdout.isatty", lambda: True)
+    monkeypatch.setattr(links, "code_of", lambda url: f"code of {url}")
+    command.tell_links(options.options_of(["a.csv", "--listen", "0.0.0.0:8080"]), [("Reporter 1", "k")])
+    urls = [f"http://{it}:8080/report/k" for it in ("10.0.0.7", "192.168.1.5")]
+    assert capsys.readouterr().out.splitlines() == [command.SEEN, *(line for url in urls for line in (f"Reporter 1: {url}", f"code of {url}"))]
+
+
+def test_files_that_the_pages_leave_are_no_sources():
+    """What the commands of README and OPERATE leave in the folder is not taken for a source."""
+    if command(["git", "rev-parse"]).status:
+        pytest.skip("no checkout of git")
+    pages = "".join(text_of(TOP / name) for name in ("README.md", "docs/OPERATE.md"))
+    records = {it for it in re.findall(r"\./ucl_(?:serve|reporter) ([a-z]+\.csv)", pages)} | {"a.csv", "h.csv"}
+    assert {"evening.csv", "trial.csv"} < records
+    for name in records | {f"{it}.keys" for it in records}:
+        assert command(["git", "check-ignore", name]).status == 0, name
 
 
 def refused(folder, live, *words):
@@ -246,7 +183,9 @@ def test_ctrl_c_at_the_questions(hall, live, tmp_path):
     """It ends at once, and begins nothing."""
     one = Terminal([SERVE, "b.csv"], cwd=tmp_path, env={**os.environ, "UCL_LIVE": str(live)})
     try:
-        one.sees("The group's letter").enter("b", "Order")
+        one.sees("The group's letter").enter("b", "Order, ")
+        while one.read(0.5):
+            pass  # the question is there before it reads
         assert one.end("\x03") == 130 and "Traceback" not in one.text() and not [*tmp_path.glob("b.csv*")]
     finally:
         one.kill()
@@ -277,23 +216,25 @@ def test_what_one_is_told_on_another_address(hall, live, tmp_path):
 # ---- who may do what
 
 
+@pytest.mark.quick
 def test_pages_and_headers(hall):
     """A page may run its own script and style, by their sums, and no other."""
     one = hall("--reporter", "1")
     for path, name in ("/", "index.html"), (f"/report/{one.key(1)}", "report.html"), ("/?wall", "index.html"):
         status, headers, body = one.get(path)
-        text = text_of(TOP / "hall/pages" / name)
+        text = text_of(TOP / "ucl_hall/web/pages" / name)
         sums = {part: base64.b64encode(hashlib.sha256(re.search(f"<{part}>(.*?)</{part}>", text, re.S)[1].encode()).digest()).decode() for part in ("script", "style")}
         policy = f"{NOTHING}; script-src 'sha256-{sums['script']}'; style-src 'sha256-{sums['style']}'; connect-src 'self'"
         assert (status, body) == (200, text) and {**headers, **HEADERS, "content-security-policy": policy} == headers
         assert "http:" not in text.replace("http://HOST", "") and "https:" not in text and one.key(1) not in body
-    assert one.get("/replay.jsonl")[2] == text_of(TOP / "hall/pages/replay.jsonl")
+    assert one.get("/replay.jsonl")[2] == text_of(TOP / "ucl_hall/web/pages/replay.jsonl")
     paths = ["/report.html", "/index.html", "/report", "/report/", "/report/x", f"/report/{'0' * 32}", f"/report/{one.key(1)}/", f"/report/{one.key(1).upper()}x"]
     for path in [*paths, "/../ucl_serve", "/..%2f..%2fetc/passwd", "/a.csv", "/a.csv.keys", "/favicon.ico", "/lines/", "//", "/%00"]:
         status, headers, body = one.get(path)
         assert status == 404 and {**headers, **HEADERS, "content-security-policy": NOTHING} == headers, path
 
 
+@pytest.mark.quick
 def test_a_key_is_of_one_record_and_one_number(hall):
     one = hall("--reporter", "1:3", "--reporter", "2", records=("a.csv", "b.csv"))
     of_a, of_b = one.phone(1), one.phone(1, "b.csv")
@@ -311,19 +252,47 @@ def test_a_page_of_another_host_opens_no_websocket(hall):
         assert Socket(one.port, path).status == 101
 
 
+@pytest.mark.quick
+def test_names_that_are_not_of_this_server(hall):
+    """A page of another host may have its name lead here: it reads nothing. Nobody is asked for a name."""
+    one = hall("--reporter", "1", "--url", "http://Hall.example:8080/")
+    paths = ["/", "/health", "/replay.jsonl", f"/report/{one.key(1)}"]
+    asked = lambda path, host: one.get(path, f"Host: {host}", host=False)[0]
+    for host in "evil.example", "evil.example:80", f"127.0.0.1.evil.example:{one.port}", "local", "hall.example.evil", "[", "x@hall.example.evil", "":
+        assert {asked(path, host) for path in paths} <= {403, 400}, host
+        assert Socket(one.port, "/lines", host=host, origin=f"http://{host}").status in (403, 400)
+    for host in "127.0.0.1", f"127.0.0.1:{one.port}", "192.168.1.5", "[::1]:8080", "localhost", "laptop.local:8080", "hall.example", "HALL.example:8080":
+        assert {asked(path, host) for path in paths} == {200}, host
+        assert Socket(one.port, "/lines", host=host).status == 101
+    begun = time.monotonic()
+    assert Socket(one.port, "/lines", host="", origin="http://x").status == 403 and time.monotonic() - begun < 1
+    assert one.get("/health", host=False)[0] == 200
+
+
 def test_more_screens_than_may_be(hall):
-    """Reporters are not counted. One that goes makes room."""
+    """Reporters are not counted. One that goes makes room, and so does an address that has more; this machine always has a place."""
     one = hall("--reporter", "1", "--most-screens", "2")
-    screens = [one.screen() for _ in range(3)]
+    screens = [one.screen(source="127.0.0.2") for _ in range(3)]
     assert [screen.status for screen in screens] == [101, 101, 503]
     assert one.phone(1).answer(1, 0, "kickoff") == "entered"
     screens[0].socket.close()
-    assert until(lambda: one.screen().status == 101)
+    assert until(lambda: screens.append(one.screen(source="127.0.0.2")) or screens[-1].status == 101)
+    others = [one.screen(source=it) for it in ("127.0.0.3", "127.0.0.4", "127.0.0.1", "127.0.0.1")]
+    assert [it.status for it in others] == [101, 503, 101, 503] and screens[-1].is_closed() and one.health()["screens"] == 3
+
+
+def test_more_screens_than_an_address_may_have(hall):
+    one = hall()
+    screens = [one.screen(source="127.0.0.2") for _ in range(64)]
+    time.sleep(1)
+    assert {it.status for it in screens} == {101} and one.screen(source="127.0.0.2").status == 503
+    assert one.screen(source="127.0.0.3").status == 101 == one.screen().status
 
 
 # ---- taps
 
 
+@pytest.mark.quick
 def test_taps_and_answers(hall):
     """Each is entered as it was seen; who sent it is told, and everybody sees the moment before."""
     one = hall("--reporter", "1", "--reporter", "2")
@@ -332,16 +301,17 @@ def test_taps_and_answers(hall):
     assert screen.receive()["version"] == 0
     assert first.answer(1, 0, "kickoff") == "entered" and second.answer(1, 1, "goal-away") == "entered"
     assert first.until("screen", version=2)["matches"][0]["score"] == [0, 1] and screen.until("screen", version=2)
-    assert first.until("recent")["events"] == [{"row": 7, "reporter": 2, "match": 1, "event": "goal-away"}, {"row": 6, "reporter": 1, "match": 1, "event": "kickoff"}]
+    assert first.until("recent")["events"] == [{"row": 7, "reporter": 2, "match": 1, "event": "goal-away", "number": 2}, {"row": 6, "reporter": 1, "match": 1, "event": "kickoff", "number": 1}]
     wanted = {(1, 1, "goal-away"): "stale", (2, 0, "goal-home"): "not-started", (1, 2, "kickoff"): "already-started", (1, 2, "reopen"): "not-finished"}
     wanted |= {(1, 2, "disallow-home"): "no-goal", (1, 2, "second-yellow-home"): "no-caution", (1, 2, "fulltime"): "entered", (1, 3, "red-away"): "finished"}
     for tap, name in wanted.items():
         said = first.until("answer", id=first.tap(*tap))
         assert said["name"] == name and (said["told"] == "Entered, 0\u20131" or said["told"].startswith("Not entered: ")) and len(said["told"]) < 80
     assert not [line for line in second.lines if line["reply"] == "answer" and line["name"] != "entered"]
-    assert one.health()["groups"]["A"] == {"edition": 0, "version": 3, "rows": 14, "is_there": True, "reporters": 2, "fault": ""}
+    assert one.health()["groups"]["A"] == {"edition": 0, "version": 3, "rows": 14, "is_there": True, "phones": {"1": 1, "2": 1}, "fault": ""}
 
 
+@pytest.mark.quick
 def test_one_tap_is_entered_once_whoever_asks(hall):
     """A tap that is sent again gets its answer. One that was asked about before it came is never entered, nor after a start of the server."""
     one = hall("--reporter", "1")
@@ -369,6 +339,27 @@ def test_two_phones_of_one_link_are_answered_each_for_itself(hall):
     assert [[line["id"] for line in phone.lines if line["reply"] == "answer"][-1] for phone in phones] == ids
 
 
+@pytest.mark.quick
+def test_how_many_phones_a_link_has(hall):
+    """Each of them is told, and who runs the server. A page that connects anew is the same phone, and a ninth phone takes the place of the first."""
+    one = hall("--reporter", "1", "--reporter", "2")
+    first, other = one.phone(1, page="x"), one.phone(2)
+    assert first.until("phones")["count"] == 1
+    second = one.phone(1)
+    assert first.until("phones")["count"] == 2 == second.until("phones")["count"]
+    assert one.health()["groups"]["A"]["phones"] == {"1": 2, "2": 1}
+    time.sleep(1.5)
+    again = one.phone(1, page="x")
+    assert first.is_closed() and again.until("phones")["count"] == 2 and again.answer(1, 0, "kickoff") == "entered"
+    second.socket.close()
+    assert again.until("phones")["count"] == 1
+    more = [one.phone(1) for _ in range(8)]
+    assert again.is_closed() and more[0].until("phones", count=8) and more[0].answer(1, 1, "goal-home") == "entered"
+    assert one.health()["groups"]["A"]["phones"]["1"] == 8 and [line["count"] for line in other.lines if line["reply"] == "phones"] in ([], [1])
+    assert one.end(signal.SIGTERM) == (0, "", "ucl_serve: reporter 1 has 2 phones\n")
+
+
+@pytest.mark.quick
 def test_a_mend_while_phones_look_on(hall):
     """A tap from before it is not entered, phones are told what no longer counts, and screens get the whole board of the next edition."""
     one = hall("--reporter", "1")
@@ -386,24 +377,25 @@ def test_a_mend_while_phones_look_on(hall):
 
 
 def test_messages_that_are_no_taps(hall):
-    """Each closes its connection, and enters nothing."""
-    one = hall("--reporter", "1:1")
-    tap = {"tap": "ab" * 16, "edition": 0, "match": 1, "number": 0, "event": "kickoff"}
+    """Each closes its connection, and enters nothing. Each is of a link of its own: those of one link are counted together."""
+    one = hall(*[word for number in range(1, 61) for word in ("--reporter", f"{number}:1")])
+    tap = {"tap": "ab" * 16, "edition": 0, "match": 1, "expected": 0, "event": "kickoff"}
     wrong = [{"tap": it} for it in ("", "AB" * 16, "ab" * 17, 7, None, ["ab" * 16])] + [{"match": it} for it in (0, 2, 13, "1", 1.0, True, None, 1 << 80)]
-    wrong += [{"edition": it} for it in (-1, 65536, "0")] + [{"number": it} for it in (-1, 65536, [])] + [{"event": it} for it in ("", "goal", "mend", 5, {}, "kickoff\n")]
+    wrong += [{"edition": it} for it in (-1, 65536, "0")] + [{"expected": it} for it in (-1, 65536, [])] + [{"event": it} for it in ("", "goal", "mend", 5, {}, "kickoff\n")]
     texts = [json.dumps({**tap, **it}) for it in wrong]
+    links = iter(range(1, 61))
     for text in [*texts, "", "x", "null", "[]", "{}", "[" * 1000, '{"tap":', "\0", "x" * 1025, "1" * 900, json.dumps({**tap, "more": "x" * 1024})]:
-        phone = one.phone(1)
+        phone = one.phone(next(links))
         phone.send(text)
         assert phone.is_closed(), text
     for opcode, mask in (0x82, b"\1\2\3\4"), (0x83, b"\1\2\3\4"), (0xC1, b"\1\2\3\4"):
-        phone = one.phone(1)
+        phone = one.phone(next(links))
         phone.send(json.dumps(tap), opcode, mask)
         assert phone.is_closed()
     screen = one.screen()
     screen.send(json.dumps(tap))
     assert screen.is_closed() and one.rows() == []
-    assert one.phone(1).answer(1, 0, "kickoff") == "entered"
+    assert one.phone(next(links)).answer(1, 0, "kickoff") == "entered"
 
 
 def test_more_messages_than_may_be(hall):
@@ -416,8 +408,8 @@ def test_more_messages_than_may_be(hall):
 
 
 def test_a_thousand_hostile_requests_and_frames(hall):
-    """The server answers afterwards, at once, and has told nothing."""
-    one, chance = hall("--reporter", "1"), random.Random(7)
+    """The server answers afterwards, at once."""
+    one, chance = hall("--reporter", "1", "--reporter", "2"), random.Random(7)
     parts = [b"GET / HTTP/1.1\r\n", b"Host: x\r\n", b"\r\n", b"\0", b"\xff" * 20, b"Content-Length: 99999999999\r\n", b"Transfer-Encoding: chunked\r\n", b"POST / HTTP/1.1\r\n", b"Upgrade: websocket\r\n"]
     parts += [b"Connection: Upgrade\r\n", b"Sec-WebSocket-Key: x\r\n", b"Sec-WebSocket-Version: 99\r\n", b"A" * 9000, b"GET /\r\n", b"\x16\x03\x01", b"PRI * HTTP/2.0\r\n\r\nSM\r\n\r\n", b"5\r\nhello\r\n"]
     for _ in range(500):
@@ -428,10 +420,24 @@ def test_a_thousand_hostile_requests_and_frames(hall):
         with contextlib.suppress(OSError):
             rough.socket.sendall(chance.randbytes(chance.choice([1, 2, 3, 7, 40, 2000])))
         rough.socket.close()
-    phone = one.phone(1)
+    phone = one.phone(2)
     assert phone.answer(1, 0, "kickoff") == "entered"
     assert until(lambda: one.health()["screens"] == 0 and one.health()["reporters"] == 1)
-    assert one.end(signal.SIGTERM) == (0, "", "")
+    status, output, errors = one.end(signal.SIGTERM)
+    assert (status, output) == (0, "") and re.fullmatch(r"(ucl_serve: (reporter 1 has \d phones; )?cut off \d+ connections, all of 127.0.0.1\n)?", errors)
+
+
+def test_a_connection_has_one_request(hall):
+    """What comes behind it is passed over, also where it comes in pieces."""
+    one = hall()
+    asked = b"GET /health HTTP/1.1\r\nHost: 127.0.0.1\r\n\r\n"
+    for pieces in [asked * 2], [asked[:20], asked[20:-1], asked[-1:] + asked]:
+        with socket.create_connection(("127.0.0.1", one.port), 10) as two:
+            for piece in pieces:
+                two.sendall(piece)
+                time.sleep(0.05)
+            answer = b"".join(iter(lambda: two.recv(1 << 16), b""))
+        assert answer.count(b"HTTP/1.1 200") == 1 == answer.count(b'"groups"')
 
 
 def test_a_request_that_is_not_whole_in_ten_seconds(hall):
@@ -462,29 +468,6 @@ def test_two_thousand_idle_connections_under_a_limit_of_files(hall):
         resource.setrlimit(resource.RLIMIT_NOFILE, (soft, hard))
 
 
-def test_a_disk_that_is_full(hall, tmp_path):
-    """Nothing of the row is in the record, and the phone says so."""
-    if os.geteuid() or subprocess.run(["mount", "-t", "tmpfs", "-o", "size=64k", "tmpfs", tmp_path], stderr=subprocess.DEVNULL).returncode:
-        pytest.skip("no small file system can be made here")
-    try:
-        begun = "group,A,uefa,0\n" + model.CLUBS
-        (tmp_path / "a.csv").write_text(begun + "\n" * (4096 - len(begun) - 20))
-        one = hall("--reporter", "1")
-        phone = one.phone(1)
-        assert phone.answer(1, 0, "kickoff") == "entered"
-        with contextlib.suppress(OSError), open(tmp_path / "filler", "wb") as filler:
-            filler.write(bytes(1 << 20))
-        answer = phone.until("answer", id=phone.tap(1, 1, "goal-home"))
-        assert (answer["name"], answer["told"]) == ("not-entered", "The disk is full: nothing was entered")
-        assert text_of(tmp_path / "a.csv").endswith("\n1,1,0,kickoff\n")
-        (tmp_path / "filler").unlink()
-        assert phone.answer(1, 1, "goal-home") == "entered"
-    finally:
-        one.process.kill()
-        one.process.wait()
-        subprocess.run(["umount", "-l", tmp_path], check=False)
-
-
 def test_a_record_that_is_replaced(hall):
     """Nobody is shown the other board: phones and screens get no pulse of the group, and with the last group the server ends."""
     one = hall("--reporter", "1", records=("a.csv", "b.csv"))
@@ -493,7 +476,9 @@ def test_a_record_that_is_replaced(hall):
     (one.folder / "new").write_text(text + "1,1,0,kickoff\n")
     os.replace(one.folder / "new", one.folder / "a.csv")
     assert until(lambda: not one.health()["groups"]["A"]["is_there"])
-    assert "has become another file" in one.health()["fault"] and phone.answer(1, 0, "kickoff") == "maybe"
+    assert "has become another file" in one.health()["fault"] and one.health()["groups"]["A"]["fault"]
+    told = json.loads(one.get("/health", source="127.0.0.2")[2])
+    assert told["fault"] == told["groups"]["A"]["fault"] == "look at the server" and told["groups"]["B"]["fault"] == "" and phone.answer(1, 0, "kickoff") == "maybe"
     assert one.phone(1, "b.csv").answer(1, 0, "kickoff") == "entered"
     while phone.socket.settimeout(2.5) is None:
         try:
@@ -508,23 +493,8 @@ def test_a_record_that_is_replaced(hall):
 # ---- what is killed, stopped or slow
 
 
-def test_the_program_is_killed_and_no_tap_is_lost_or_doubled(hall):
-    one = hall("--reporter", "1")
-    phone, number = one.phone(1), 0
-    assert phone.answer(1, 0, "kickoff") == "entered"
-    for turn in range(5):
-        ids = []
-        for _ in range(3):
-            number += 1
-            ids.append(phone.tap(1, number, "yellow-home"))
-        [os.kill(child, signal.SIGKILL) for child in one.live()]
-        assert [phone.until("answer", id=id)["name"] for id in ids] == ["entered"] * 3
-    assert one.rows() == ["1,1,0,kickoff"] + [f"1,1,{it},yellow-home" for it in range(1, 16)]
-    assert one.phone(1).lines[-1]["events"][0] == {"row": 21, "reporter": 1, "match": 1, "event": "yellow-home"}
-
-
 def test_the_server_is_killed_while_taps_are_on_the_way(hall):
-    """Afterwards each tap that was entered is answered so, and each other one is not in the record."""
+    """Nothing is left of it. Afterwards each tap that was entered is answered so, and each other one is not in the record."""
     one, chance = hall("--reporter", "1"), random.Random(3)
     taps = []
     for turn in range(6):
@@ -533,7 +503,9 @@ def test_the_server_is_killed_while_taps_are_on_the_way(hall):
             taps.append((number, phone.tap(1, number, "yellow-home" if number else "kickoff")))
             number += 1
         time.sleep(chance.random() / 50)
+        children = one.live()
         one.end()
+        assert until(lambda: not any(pathlib.Path(f"/proc/{it}").exists() for it in children))
         one.start()
         phone, rows = one.phone(1), one.rows()
         for number, id in taps[-6:]:
@@ -578,36 +550,3 @@ def test_a_slow_screen_gets_the_newest_and_holds_nobody_up(hall):
         shown += [said["version"]] if said["reply"] == "screen" else []
     assert shown == sorted(set(shown)) or shown[2:] == sorted(set(shown[2:]))
     assert len(shown) < 1000
-
-
-# ---- behind a broker
-
-
-def test_a_server_behind_a_broker(hall, live, tmp_path):
-    """Reporters behind the broker and phones enter into one record; the desk has each screen, and no second board runs beside it."""
-    conftest.needs("mosquitto", "mosquitto_sub", "mosquitto_pub")
-    command(["/usr/bin/python3", "-c", "import paho.mqtt"]).status and pytest.skip("not installed: python3-paho-mqtt")
-    port, room = free_port(), tmp_path / "broker"
-    room.mkdir()
-    (room / "conf").write_text(f"listener {port} 127.0.0.1\nallow_anonymous true\nuser root\n")
-    (tmp_path / "address").write_text(f"-h 127.0.0.1\n-p {port}\n")
-    (room / "mosquitto_sub").write_text(f"-h 127.0.0.1\n-p {port}\n")
-    env = {**os.environ, "UCL_LIVE": str(live), "XDG_CONFIG_HOME": str(room)}
-    with Started(["mosquitto", "-c", room / "conf"]) as broker:
-        assert until(lambda: not socket.socket().connect_ex(("127.0.0.1", port)))
-        one = hall("--reporter", "1", "--broker", "address", records=("a.rows", "b.rows"))
-        for topic, text in ("ucl/z/desk", "x"), ("ucl/a/answers", "{}"), ("ucl/b/desk", "{}"), ("ucl/a/0 x/rows/1", "hi"), ("ucl/b/0/rows/1", "x" * 300):
-            command(["mosquitto_pub", "-p", str(port), "-q", "1", "-t", topic, "-m", text])
-        assert one.phone(1, "b.rows").answer(1, 0, "kickoff") == "entered" and one.rows("a.rows") == []
-        phone, screen = one.phone(1, "a.rows"), one.screen()
-        assert phone.answer(1, 0, "kickoff") == "entered"
-        typed = command(["/usr/bin/python3", TOP / "ucl_reporter", "--broker", "a", "--number", "2"], "1 goal home\n2 kickoff\n", env=env, cwd=tmp_path)
-        assert (typed.status, typed.output.count(" entered")) == (0, 2), typed
-        assert screen.until("screen", group="A", version=3)["matches"][0]["score"] == [1, 0] and phone.until("screen", version=3)
-        assert one.rows("a.rows") == ["1,1,0,kickoff", "2,1,1,goal-home", "2,2,0,kickoff"]
-        desk = command(["mosquitto_sub", "-h", "127.0.0.1", "-p", str(port), "-t", "ucl/a/desk", "-C", "1", "-W", "5"]).output
-        assert json.loads(desk)["version"] == 3
-        second = command(["/usr/bin/python3", "-m", "hall.board", "a"], cwd=tmp_path, env={**env, "PYTHONPATH": str(TOP)})
-        assert second.status == 1 and "another board of group a runs here" in second.errors
-        broker.kill()
-        assert phone.answer(1, 2, "goal-away") == "entered" and one.end(signal.SIGTERM).status == 0

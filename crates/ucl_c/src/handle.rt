@@ -10,7 +10,9 @@ pub struct UclboardPass {
     nothing: [u8; 0],
 }
 
-/// A pointer that owns a box with a pass and a counted reference to its board, or null. Contracts see as `value` what lies in that box.
+/// A pointer that owns a box with a pass and a counted reference to its board, or null. Contracts see as `value` what lies in that box. A
+/// call that is lent a handle leaves it null if it was null, and holding a pass if it held one, but for the handle that is given a pass and
+/// the one that is dropped.
 #[repr(C)]
 pub struct Handle {
     pub(crate) at: *mut UclboardPass,

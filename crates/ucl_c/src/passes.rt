@@ -16,6 +16,8 @@ use std::alloc::Global;
 use ucl_word::{EventCall, Kind, MatchNo};
 
 /// Opens a board that has no events, and gives its first pass, a reader's, to a handle that is null. On a fault, the handle is as it was.
+/// The pass has seen nothing, and has the whole share of the board. The fault is 59 if the handle is not null, and otherwise can only be
+/// lack of memory (23).
 #[unsafe(no_mangle)]
 pub extern "C" fn uclboard_open(alloc: Global, pass: &mut Handle) -> u32
     ensures opened { result ≡ 0 →
@@ -30,7 +32,8 @@ pub extern "C" fn uclboard_open(alloc: Global, pass: &mut Handle) -> u32
 }
 
 /// Splits the reader's pass of a handle, and gives the second pass, of the same board, to `other`, which has to be null. If it is not done,
-/// nothing is split, and `other` stays as it was.
+/// nothing is split, and `other` stays as it was. Each pass has half of the share then, and has seen as much. The faults are 59, then 60 or
+/// 61, then lack of memory.
 #[unsafe(no_mangle)]
 pub extern "C" fn uclboard_pass_split(alloc: Global, pass: &mut Handle, other: &mut Handle) -> u32
     ensures given { result ≡ 0 →
@@ -49,7 +52,9 @@ pub extern "C" fn uclboard_pass_split(alloc: Global, pass: &mut Handle, other: &
 }
 
 /// Enlists a reporter by the reader's pass of a handle, and gives the reporter's pass, of the same board, to `other`, which has to be null.
-/// If it is not done, `other` stays as it was, and no number is given.
+/// If it is not done, `other` stays as it was, and no number is given. The number is one that no entry and no other reporter has, and takes
+/// at most 255 compare and exchanges. The faults are those of a split, and 30 if 255 reporters were seen enlisted: then the reader's pass
+/// has given half of its share.
 #[unsafe(no_mangle)]
 pub extern "C" fn uclboard_pass_enlist(alloc: Global, pass: &mut Handle, other: &mut Handle) -> u32
     ensures given { result ≡ 0 →
@@ -79,8 +84,10 @@ fn match_with(number: u32) -> Option<MatchNo>
 }
 
 /// Enters an event, of the kind with code `kind`, by the reporter's pass of a handle. `expected` is how many events match `game` had when
-/// its reporter saw it last; if that is not so now, the event is stale. The first fault is returned: of the kind, the match, the pass, or
-/// the rules. Writes to `number` how many events the match has had, if this one is accepted or stale.
+/// its reporter saw it last; if that is not so now, the event is stale. The first fault is returned: of the kind (51), the match (62), the
+/// pass (60, 63), or the rules. An accepted event is the last that the pass has then seen, and a refusal by the rules is that of a board of
+/// one thread after all that it has then seen. Writes to `number` how many events the match has had, if this one is accepted or stale. Asks
+/// for no memory.
 #[unsafe(no_mangle)]
 pub extern "C" fn uclboard_pass_report(
     alloc: Global,
@@ -119,7 +126,8 @@ pub extern "C" fn uclboard_pass_report(
     }
 }
 
-/// Writes the number of the reporter's pass of a handle to `number`, or nothing if the handle is null (60) or has a reader's pass (63).
+/// Writes the number of the reporter's pass of a handle to `number`, or nothing if the handle is null (60) or has a reader's pass (63). The
+/// pass stays as it was. Asks for no memory.
 #[unsafe(no_mangle)]
 pub extern "C" fn uclboard_pass_number(alloc: Global, pass: &mut Handle, number: &mut u32) -> u32
     ensures told { fault_of_report (pass_held pass.old) ≡ None →
@@ -135,7 +143,8 @@ pub extern "C" fn uclboard_pass_number(alloc: Global, pass: &mut Handle, number:
 }
 
 /// Reads the board by the pass of a handle, of either kind: its twelve matches, each packed into a word, and its version, which is how many
-/// events were entered. If `words` is not twelve long (54) or the handle is null (60), writes nothing.
+/// events were entered. If `words` is not twelve long (54) or the handle is null (60), writes nothing. The words are those of the board
+/// after so many events, all that the pass had seen among them. Asks for no memory.
 #[unsafe(no_mangle)]
 pub extern "C" fn uclboard_pass_read(
     alloc: Global,
@@ -161,7 +170,8 @@ pub extern "C" fn uclboard_pass_read(
     0
 }
 
-/// Drops the pass of a handle, and with the last pass of a board the board. The handle is null then; if it was null it stays so.
+/// Drops the pass of a handle, and with the last pass of a board the board. The handle is null then; if it was null it stays so. It only
+/// gives memory back; that it gives back all is tested, not proved.
 #[unsafe(no_mangle)]
 pub extern "C" fn uclboard_pass_drop(alloc: Global, pass: &mut Handle)
     ensures null { fault_of_room pass.new ≡ None }

@@ -43,7 +43,8 @@ fn text_of(
 }
 
 /// Writes the screen of twelve words and four clubs and a zero to the front of `out`, and how many bytes the screen has to `long`, also if
-/// `out` is too small (56). What is beyond them stays as it was, and all of `out` if the call is not done.
+/// `out` is too small (56). What is beyond them stays as it was, and all of `out` if the call is not done. A buffer of 297 bytes always has
+/// room. Lack of memory (23) can come in place of any answer.
 #[unsafe(no_mangle)]
 pub extern "C" fn uclboard_screen(
     alloc: Global,
@@ -92,7 +93,8 @@ pub extern "C" fn uclboard_screen_length(
 }
 
 /// Writes the screen of twelve words and four clubs as the line of JSON that answers the row with this number: as `ucl_live` answers
-/// `screen,,,`, but without the members `edition` and `matches`. `out` and `long` are written as by [`uclboard_screen`].
+/// `screen,,,`, but without the members `edition` and `matches`. `out` and `long` are written as by [`uclboard_screen`]. A buffer of 1,424
+/// bytes always has room.
 #[unsafe(no_mangle)]
 pub extern "C" fn uclboard_screen_json(
     alloc: Global,

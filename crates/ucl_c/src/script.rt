@@ -97,7 +97,8 @@ fn club_of(roster: &Roster, slot: u8) -> ClubOfC
 
 /// Plays a whole script and returns 0, or the number of a fault. Its clubs go to `clubs`, what became of each event to the front of
 /// `replies`, the twelve words after the last to `words`, and how many events there are to `count`, also if `replies` has no room for as
-/// many (56). The row or the club that is wrong goes to `at`.
+/// many (56). The row or the club that is wrong goes to `at`. A fault of the script is the one that `ucl_night feed` has of the same bytes,
+/// with the same row.
 #[unsafe(no_mangle)]
 pub extern "C" fn uclboard_script(
     alloc: Global,

@@ -56,7 +56,7 @@ fn name_of_status(status: u32) -> Option<&'static str>
 }
 
 /// Writes the name of a status and a zero to the front of `out`, and the length of the name to `length`, also if `out` is too small (56). A
-/// number that is no status (58) leaves both as they were.
+/// number that is no status (58) leaves both as they were. The number of a refusal has the name of the refusal.
 #[unsafe(no_mangle)]
 pub extern "C" fn uclboard_text_of_status(status: u32, out: &mut [u8], length: &mut usize) -> u32
     ensures known { (name : List ℕ) → name_of_status status ≡ Some name →

@@ -8,6 +8,7 @@ pub fn faults_are_written_by_number()
 {}
 
 /// Proves that each screen has at most 296 bytes, and that the line of JSON with it, which answers a row of `ucl_live`, has at most 1,423.
+/// That holds for any board, clubs, group, order and row, also if names have quotes and backslashes, which take two bytes each in the line.
 pub fn screens_are_short()
     ensures { ScreensAreShort }
 {}

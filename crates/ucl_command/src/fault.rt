@@ -1,5 +1,7 @@
 //! The words of the command line, parsed by `clap`, and why they name nothing to do (`LineFault`).
 
+ghost use Rattle.std.specs.Prelude.{IfOk, map, string_bytes};
+ghost use Rattle.clap.specs.Simple.{HasMatchesOf, app_of};
 ghost use Rattle.ucl_command.specs.declared.fault.LineFault.TheVariants.{OutOfMemory};
 ghost use Rattle.ucl_command.specs.Arguments.{ReadsJust};
 
@@ -71,7 +73,9 @@ pub(crate) fn matches_from<'a>(
     alloc: Global,
     command: Command<'a>,
     words: &'a [String],
-) -> Result<ArgMatches<'a>, LineFault> {
+) -> Result<ArgMatches<'a>, LineFault>
+    ensures { IfOk result (HasMatchesOf (app_of command.entry) (map string_bytes words.entry.now)) }
+{
     command
         .try_get_matches_from(words)
         .map_err(|error| fault_of(alloc, &error))

@@ -1,5 +1,10 @@
 //! The arguments of `ucl_follow`, which reads answers of `ucl_live` in JSON and shows each newer screen.
 
+ghost use Rattle.std.specs.Prelude.{◌≡◌, IfOk, IfSome, map, string_bytes};
+ghost use Rattle.clap.specs.Matches.{found_of};
+ghost use Rattle.clap.specs.Walk.{rows_of};
+ghost use Rattle.ucl_command.specs.Commands.{AsksFollow, HasApp, IsFollowAsked, OneOf, follow_app, shape_for};
+
 use crate::fault::{LineFault, matches_from, read};
 use crate::help::{FORMAT, follow as help};
 use crate::options::{
@@ -33,7 +38,10 @@ pub enum FollowShape {
 }
 
 /// Creates the command by which `clap` parses the words of `ucl_follow`.
-fn command<'a>(alloc: Global) -> Result<Command<'a>, AllocError> {
+fn command<'a>(alloc: Global) -> Result<Command<'a>, AllocError>
+    ensures { IfOk result (λ command. (letters orders formats : OneOf)
+        × HasApp (follow_app letters orders formats) command) }
+{
     program(alloc, "ucl_follow", help::PROGRAM, help::PROGRAM_MORE)
         .arg(group_option(alloc, help::GROUP))?
         .arg(order_option(alloc, help::ORDER))?
@@ -41,17 +49,25 @@ fn command<'a>(alloc: Global) -> Result<Command<'a>, AllocError> {
         .arg(flag_option(alloc, "matches", help::MATCHES).conflicts_with("format")?)
 }
 
-/// Returns the arguments that `clap` has parsed, or `None` if `clap` gave no format. `clap` refuses `--matches` beside `--format`.
-fn args_in(matches: &ArgMatches<'_>) -> Option<FollowArgs> {
-    let shape = match format_of(matches)? {
-        _ if matches.get_flag("matches") => FollowShape::Matches,
+/// Returns what is written in this form, or, if matches are asked for, in place of screens.
+fn shape_for(format: Format, matches: bool) -> FollowShape
+    ensures { result ≡ shape_for format matches }
+{
+    match format {
+        _ if matches => FollowShape::Matches,
         Format::Text => FollowShape::Text,
         Format::Json => FollowShape::Json,
-    };
+    }
+}
+
+/// Returns the arguments that `clap` has parsed, or `None` if `clap` gave no format. `clap` refuses `--matches` beside `--format`.
+fn args_in(matches: &ArgMatches<'_>) -> Option<FollowArgs>
+    ensures { IfSome result (IsFollowAsked (rows_of (found_of matches.now))) }
+{
     Some(FollowArgs {
         group: group_of(matches),
         profile: order_of(matches),
-        shape,
+        shape: shape_for(format_of(matches)?, matches.get_flag("matches")),
     })
 }
 
@@ -64,7 +80,9 @@ fn args_in(matches: &ArgMatches<'_>) -> Option<FollowArgs> {
 ///
 /// `Help` if help is asked for, by `--help` or `-h`, or the version, by `--version` or `-V`; `Refused` if the words have anything else;
 /// and `OutOfMemory`.
-pub fn follow_args(alloc: Global, words: &[String]) -> Result<FollowArgs, LineFault> {
+pub fn follow_args(alloc: Global, words: &[String]) -> Result<FollowArgs, LineFault>
+    ensures { IfOk result (AsksFollow (map string_bytes words.entry.now)) }
+{
     let matches = matches_from(alloc, command(alloc)?, words)?;
     read(alloc, args_in(&matches))
 }

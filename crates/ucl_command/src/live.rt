@@ -1,6 +1,9 @@
 //! The arguments of `ucl_live`, which answers rows of events through an evening.
 
-ghost use Rattle.std.specs.Prelude.{◌≡◌, true};
+ghost use Rattle.std.specs.Prelude.{◌≡◌, true, IfOk, IfSome, map, string_bytes};
+ghost use Rattle.clap.specs.Matches.{found_of};
+ghost use Rattle.clap.specs.Walk.{rows_of};
+ghost use Rattle.ucl_command.specs.Commands.{AsksLive, HasApp, IsLiveAsked, OneOf, live_app};
 ghost use Rattle.ucl_command.specs.Groups.{may_be_asked};
 
 use crate::fault::{LineFault, matches_from, read};
@@ -28,7 +31,10 @@ pub struct LiveArgs {
 }
 
 /// Creates the command by which `clap` parses the words of `ucl_live`.
-fn command<'a>(alloc: Global) -> Result<Command<'a>, AllocError> {
+fn command<'a>(alloc: Global) -> Result<Command<'a>, AllocError>
+    ensures { IfOk result (λ command. (letters orders formats : OneOf)
+        × HasApp (live_app letters orders formats) command) }
+{
     program(alloc, "ucl_live", help::PROGRAM, help::PROGRAM_MORE)
         .arg(group_option(alloc, help::GROUP))?
         .arg(order_option(alloc, help::ORDER))?
@@ -37,7 +43,10 @@ fn command<'a>(alloc: Global) -> Result<Command<'a>, AllocError> {
 }
 
 /// Returns the arguments that `clap` has parsed, or `None` if it left out the format.
-fn args_in(matches: &ArgMatches<'_>) -> Option<LiveArgs> {
+fn args_in(matches: &ArgMatches<'_>) -> Option<LiveArgs>
+    ensures { IfSome result (λ args. IsLiveAsked (rows_of (found_of matches.now))
+        args.group args.profile args.screens args.format) }
+{
     Some(LiveArgs {
         group: group_of(matches),
         profile: order_of(matches),
@@ -55,7 +64,10 @@ fn args_in(matches: &ArgMatches<'_>) -> Option<LiveArgs> {
 ///
 /// `Help` if help is asked for, by `--help` or `-h`, or the version, by `--version` or `-V`; `Refused` if the words have anything else;
 /// and `OutOfMemory`.
-pub fn live_args(alloc: Global, words: &[String]) -> Result<LiveArgs, LineFault> {
+pub fn live_args(alloc: Global, words: &[String]) -> Result<LiveArgs, LineFault>
+    ensures { IfOk result (λ args. AsksLive (map string_bytes words.entry.now)
+        args.group args.profile args.screens args.format) }
+{
     let matches = matches_from(alloc, command(alloc)?, words)?;
     read(alloc, args_in(&matches))
 }

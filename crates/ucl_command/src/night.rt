@@ -1,7 +1,9 @@
 //! The arguments of `ucl_night`.
 
-ghost use Rattle.std.specs.Prelude.{IfOk, IfSome};
+ghost use Rattle.std.specs.Prelude.{IfOk, IfSome, codes, map, string_bytes};
+ghost use Rattle.clap.specs.Simple.{new_app, subcommand_rows_of};
 ghost use Rattle.ucl_command.specs.Arguments.{IsInRange};
+ghost use Rattle.ucl_command.specs.Commands.{AsksFor, HasApp, IsAsked, OneOf, night_app, play_app, show_app};
 
 use crate::fault::{LineFault, matches_from, read};
 use crate::help::{GROUP, ORDER, night as help};
@@ -36,14 +38,19 @@ pub enum Line {
 }
 
 /// Creates the subcommand `feed`.
-fn feed_command<'a>(alloc: Global) -> Command<'a> {
+fn feed_command<'a>(alloc: Global) -> Command<'a>
+    ensures { HasApp (new_app (codes "feed")) result }
+{
     Command::new(alloc, "feed")
         .about(help::FEED)
         .after_help(help::FEED_MORE)
 }
 
 /// Creates the subcommand `show`.
-fn show_command<'a>(alloc: Global) -> Result<Command<'a>, AllocError> {
+fn show_command<'a>(alloc: Global) -> Result<Command<'a>, AllocError>
+    ensures { IfOk result (λ show. (letters orders : OneOf)
+        × HasApp (show_app letters orders) show) }
+{
     Command::new(alloc, "show")
         .about(help::SHOW)
         .after_help(help::SHOW_MORE)
@@ -52,7 +59,10 @@ fn show_command<'a>(alloc: Global) -> Result<Command<'a>, AllocError> {
 }
 
 /// Creates the subcommand `night`.
-fn night_command<'a>(alloc: Global) -> Result<Command<'a>, AllocError> {
+fn night_command<'a>(alloc: Global) -> Result<Command<'a>, AllocError>
+    ensures { IfOk result (λ night. (letters orders : OneOf)
+        × HasApp (play_app letters orders) night) }
+{
     Command::new(alloc, "night")
         .about(help::NIGHT)
         .after_help(help::NIGHT_MORE)
@@ -62,7 +72,10 @@ fn night_command<'a>(alloc: Global) -> Result<Command<'a>, AllocError> {
 }
 
 /// Creates the command by which `clap` parses the words of `ucl_night`, with its subcommands.
-fn command<'a>(alloc: Global) -> Result<Command<'a>, AllocError> {
+fn command<'a>(alloc: Global) -> Result<Command<'a>, AllocError>
+    ensures { IfOk result (λ command. (letters orders night_letters night_orders : OneOf)
+        × HasApp (night_app letters orders night_letters night_orders) command) }
+{
     program(alloc, "ucl_night", help::PROGRAM, help::PROGRAM_MORE)
         .subcommand_required(true)
         .subcommand(feed_command(alloc))?
@@ -72,7 +85,8 @@ fn command<'a>(alloc: Global) -> Result<Command<'a>, AllocError> {
 
 /// Returns the subcommand that `clap` has parsed, with its options, or `None` if there is none or an option is not in range.
 fn line_in(matches: &ArgMatches<'_>) -> Option<Line>
-    ensures { IfSome result IsInRange }
+    ensures in_range { IfSome result IsInRange }
+    ensures asked { IfSome result (IsAsked (subcommand_rows_of matches.now)) }
 {
     let (name, found) = matches.subcommand()?;
     match name {
@@ -93,7 +107,8 @@ fn line_in(matches: &ArgMatches<'_>) -> Option<Line>
 /// Parses the words of `ucl_night`. The first word is the program's name.
 ///
 /// The subcommand is `feed`, `show` or `night`. The latter two take `--group` with a letter from `A` to `H`, by default `A`, and `--order`
-/// with `uefa` or `away-in-tie`, by default `uefa`. `night` takes `--readings` too, with a number from 0 to 1,000, by default 0.
+/// with `uefa` or `away-in-tie`, by default `uefa`. `night` takes `--readings` too, with a number from 0 to 1,000, by default 0. Which words
+/// are refused, and with which text, is tested.
 ///
 /// # Errors
 ///
@@ -101,6 +116,7 @@ fn line_in(matches: &ArgMatches<'_>) -> Option<Line>
 /// an unknown one, or what it does not take; and `OutOfMemory`.
 pub fn line_of(alloc: Global, words: &[String]) -> Result<Line, LineFault>
     ensures in_range { IfOk result IsInRange }
+    ensures asked { IfOk result (AsksFor (map string_bytes words.entry.now)) }
 {
     let matches = matches_from(alloc, command(alloc)?, words)?;
     read(alloc, line_in(&matches))

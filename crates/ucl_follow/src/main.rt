@@ -6,7 +6,7 @@ use std::process::ExitCode;
 use ucl_command::words_of;
 pub use ucl_command::{LineFault, follow_args};
 use ucl_io::LoggedIo;
-pub use ucl_live_runs::run_following;
+pub use ucl_live_runs::{run_follow, run_following};
 use ucl_screen::{FromRead, ToWrite};
 
 /// Runs the program over the standard streams. Standard output has no buffer, so that nothing is left to flush.
@@ -15,9 +15,11 @@ fn main(rt: HostRuntime) -> ExitCode {
     let mut logged_io = LoggedIo::new(FromRead::new(rt.stdin()), ToWrite::new(rt.stdout()));
     let others = ToWrite::new(rt.stderr());
     let mut errors = ToWrite::new(rt.stderr());
-    let asked = match words_of(&rt, alloc) {
-        Ok(words) => follow_args(alloc, &words),
-        Err(fault) => Err(fault),
-    };
-    ExitCode::from(run_following(alloc, asked, others, &mut logged_io, &mut errors))
+    ExitCode::from(run_follow(
+        alloc,
+        words_of(&rt, alloc),
+        others,
+        &mut logged_io,
+        &mut errors,
+    ))
 }

@@ -8,7 +8,7 @@ use std::iter::repeat_n;
 use std::sync::{Condvar, Mutex, Wait};
 use std::thread::Threads;
 use ucl_board::{Board, Reading};
-use ucl_order::Profile::Uefa;
+use ucl_order::Profile;
 use ucl_pass::{CellBoard, LiveBoard};
 use ucl_rows::RunFault;
 use ucl_runs::{Gate, NightEnd, night_run};
@@ -21,6 +21,15 @@ fn letter(group: u8) -> u8
     ensures { IsGroup result }
 {
     b'A' + group % 8
+}
+
+/// The order by which a night is shown: each group has nights by both, and so has each number of readings.
+fn profile_of(group: u8, readings: u32) -> Profile {
+    if u32::from(group % 2) == readings % 2 {
+        Profile::Uefa
+    } else {
+        Profile::AwayInTie
+    }
 }
 
 /// The kick-off of the match with this number.
@@ -56,6 +65,7 @@ struct Watch<'n, R> {
     alloc: Global,
     night: &'n Night,
     group: u8,
+    profile: Profile,
     /// How many calls each worker makes.
     most: [u32; 4],
     /// The worker of each turn, and the version that a reader finds then.
@@ -84,6 +94,7 @@ impl<'n, R: Wait + Sync> Watch<'n, R> {
             alloc,
             night,
             group,
+            profile: profile_of(group, readings),
             most,
             turns: Vec::new(alloc),
             seen: Mutex::new(seen),
@@ -171,8 +182,8 @@ impl<R: Wait + Sync> Gate for Watch<'_, R> {
 
     /// Counts a reader's screen, and notes as wrong one that is not the screen of its reading, or that is out of turn.
     fn shown(&self, worker: u8, reading: &Reading, text: &str) {
-        let roster = &self.night.roster;
-        let wanted = screen(self.alloc, &reading.board, roster, letter(self.group), Uefa);
+        let (roster, group) = (&self.night.roster, letter(self.group));
+        let wanted = screen(self.alloc, &reading.board, roster, group, self.profile);
         let is_screen = wanted.is_ok_and(|wanted| wanted.as_str() == text);
         let mut seen = self.seen.lock(self.rt);
         let next = self.turns.get(seen.turn).copied();
@@ -306,7 +317,7 @@ fn hold_night<B: LiveBoard, R: Threads + Wait + Sync>(
         group,
         readings,
         watch,
-        Uefa,
+        watch.profile,
     );
     let version = board.read(rt, &mut pass).version;
     let is_whole = match &end {
@@ -417,7 +428,7 @@ fn off_duty(rows: &mut [NightEvent], random: &mut Random) -> Option<usize> {
     at.checked_add(5)
 }
 
-/// Holds a night of the script on each kind of board, in turns. Fails if one ends otherwise than it has to.
+/// Holds a night of the script on each kind of board, by one order each, in turns. Fails if one ends otherwise than it has to.
 fn script_nights<R: Threads + Wait + Sync>(
     rt: &R,
     alloc: Global,
@@ -430,8 +441,8 @@ fn script_nights<R: Threads + Wait + Sync>(
         row: None,
         is_held: true,
     };
-    for in_cell in [false, true] {
-        let mut watch = Watch::new(rt, alloc, night, 0, readings);
+    for (in_cell, group) in [(false, 0), (true, 1)] {
+        let mut watch = Watch::new(rt, alloc, night, group, readings);
         if !is_right_on(rt, alloc, in_cell, &mut watch, case)? {
             anyhow::bail!("the night of the script, in a cell {in_cell}");
         }

@@ -1,5 +1,6 @@
 -- Outlets: a sink; the text that waits to be given to it; and how many bytes went out before, counted up to 2^64 - 1.
 -- `before` and `after` are an outlet before and after a call; what a sink has taken is None if it is not known.
+-- A text is put if it has gone out or waits in the outlet, behind what was put before it.
 use Rattle.std.specs.Prelude.{◌≡◌, ℕ, ◌+◌, ◌-◌, ◌^◌, min, Bool, true, List, ◌++◌, length, Option, Result, Ok, Err}
 use Rattle.std.specs.Io.KnownBytes.{Appends}
 use Rattle.ucl_io.specs.declared.fault.ServeFault.{ServeFault}

@@ -22,10 +22,15 @@ const MAX_READ: usize = 0x4000_0000_0000_0000;
 /// Of a line at most `cap` bytes are kept, and the rest is dropped. A handler that refuses long lines needs a `cap` one above its limit.
 /// Answers to lines that came together are gathered, at most 4,096 bytes of them.
 ///
+/// Just before each call for bytes, also in a run that fails, all complete lines are answered, and nothing but their answers is out. No
+/// call comes after one that gave no byte. At the end of the input an unfinished last line is answered too, and only then is the result
+/// `Ok`.
+///
 /// # Errors
 ///
-/// If the source fails, all lines that had an end are answered. If the handler has no answer, all earlier ones are out. If the sink fails,
-/// a first part of the answers is out, and the fault has the number of its bytes. `TooLong` comes after more than 2^62 bytes.
+/// If the source fails, or more than 2^62 bytes came (`TooLong`), all complete lines are answered, and their answers are out. A failed read
+/// is returned exactly if the source has failed. If the handler has no answer, all earlier ones are out, whole. If the sink fails, the
+/// fault has the number of bytes that went out: the first bytes of the answers to some first lines, and not all of them.
 pub fn serve_lines<S: Source, W: Sink, M: LineHandler>(
     handler: &mut M,
     cap: usize,

@@ -50,8 +50,8 @@ pub trait Sink {
 
 /// Gives the whole text to the sink. At `Err(n)` the sink has failed, and has taken just the first n bytes.
 ///
-/// `Ok` comes only if the sink did not fail on the way. Tested and not proved: a sink that has failed is not called again, and no sink is
-/// called with an empty text.
+/// `Ok` comes only if the sink did not fail on the way. There is at most one call for each byte that goes out, and one more if it fails.
+/// Tested and not proved: a sink that has failed is not called again, and no sink is called with an empty text.
 pub fn give_all<W: Sink>(sink: &mut W, text: &[u8]) -> Result<(), usize>
     ensures all { OnOk result (Appends (W.taken sink.old) (W.taken sink.new) text.now) }
     ensures part { IfErr result (λ n. WroteFirst (W.taken sink.old) (W.taken sink.new) n text.now) }

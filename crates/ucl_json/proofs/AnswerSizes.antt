@@ -9,8 +9,9 @@ use Rattle.ucl_json.proofs.Common.{rows_of, rows_within, serde_json_on_literals,
 use Rattle.ucl_json.proofs.Common.{word_at, word_items, words_valid, zero, ℕ, ℤ, ◌%◌, ◌&&◌, ◌*◌, ◌+◌, ◌-ℤ◌, ◌-◌, ◌/◌, ◌<◌, ◌^◌, ◌∙◌, ◌∷◌}
 use Rattle.ucl_json.proofs.Common.{◌≡◌, ◌≤◌}
 use Rattle.std.proofs.lemmas.Int.{ints}
-use Rattle.std.proofs.lemmas.List.Sums.{count_by-le-length, sum_by-le}
+use Rattle.std.proofs.lemmas.List.Sums.{AllPass-from_list_all, count_by-le-length, sum_by-le}
 use Rattle.std.specs.Prelude.{Bool}
+use Rattle.ucl_board.specs.Fixtures.{Fixture, at, fixture_of, fixtures}
 use Rattle.ucl_word.proofs.ChangedWords.{word_below}
 use Rattle.ucl_word.proofs.ValidRecords.{away_expulsions_valid, away_goals_valid, away_yellows_valid, home_expulsions_valid}
 use Rattle.ucl_word.proofs.ValidRecords.{home_goals_valid, home_yellows_valid, number_valid, reporter_valid}
@@ -193,18 +194,38 @@ ruleset valid = (home_goals_valid, away_goals_valid, home_yellows_valid, away_ye
 sides-plain : (deep home away : ℕ) → home ≤ 63 → away ≤ 63 → IsPlain (suc deep) (sides_value home away) × (size (sides_value home away) ≤ 7)
 sides-plain deep home away h k = ((omega arith, (omega arith, tt)), omega (arith, digits-2 home (omega arith), digits-2 away (omega arith)))
 
+-- the clubs of each match have slots of one digit
+slots-short : (game : ℕ) → game ≤ 12 → ((fixture_of game).home ≤ 4) × ((fixture_of game).away ≤ 4)
+slots-short game few =
+    let both = AllPass-from_list_all (λ (f : Fixture). nat_le f.home 4 && nat_le f.away 4) fixtures refl (game - 1) (at 0 0) (omega arith) in
+    let p = and_parts (nat_le (fixture_of game).home 4) (nat_le (fixture_of game).away 4) both in
+    (leb-true (fixture_of game).home 4 p.0, leb-true (fixture_of game).away 4 p.1)
+
 -- a match as it stands is a plain value, of at most 150 bytes
-pub match-plain : (deep game : ℕ) (m : MatchRecord) → game < 2 ^ 64 → IsValid m → IsPlain (suc (suc deep)) (match_value game m) × (size (match_value game m) ≤ 150)
+pub match-plain : (deep game : ℕ) (m : MatchRecord) → game ≤ 12 → IsValid m → IsPlain (suc (suc deep)) (match_value game m) × (size (match_value game m) ≤ 150)
 unfolding serde_json_on_literals
-match-plain deep game m g v =
+match-plain deep game m few v =
+    let slots = slots-short game few in
+    let home = slots.0 in let away = slots.1 in
     let state = state-text m.state in
     let expulsions = sides-plain deep m.home_expulsions m.away_expulsions (omega (arith, valid)) (omega (arith, valid)) in
     let score = sides-plain deep m.home_goals m.away_goals (omega (arith, valid)) (omega (arith, valid)) in
     let yellows = sides-plain deep m.home_yellows m.away_yellows (omega (arith, valid)) (omega (arith, valid)) in
     let number = digits-5 m.number (omega (arith, valid)) in
     let reporter = digits-3 m.reporter (omega (arith, valid)) in (
-      ((refl, refl), (expulsions.0, (g, (omega (arith, valid), (omega (arith, valid), (score.0, (state.0, (yellows.0, tt)))))))),
-      omega (arith, expulsions.1, score.1, yellows.1, state.1, digits-20 game g, number, reporter),
+      ((refl, refl), (omega arith, (expulsions.0, (omega arith, (omega arith, (omega (arith, valid), (omega (arith, valid), (score.0, (state.0, (yellows.0, tt)))))))))),
+      omega (
+        arith,
+        expulsions.1,
+        score.1,
+        yellows.1,
+        state.1,
+        digits-1 (fixture_of game).home (omega arith),
+        digits-1 (fixture_of game).away (omega arith),
+        digits-2 game (omega arith),
+        number,
+        reporter,
+      ),
     )
 
 -- the twelve matches of a board are plain values, and take at most 1,813 bytes in an array
@@ -222,7 +243,7 @@ matches-plain board w = plain false match_numbers refl
         let p = and_parts (nat_le game 12) (list_all (λ g. nat_le g 12) games) h in
         let few = leb-true game 12 p.0 in
         let valid = word_valid (word_at board game) (All-get_or IsWord board (game - 1) 0 (omega (arith, w.twelve, few)) w.each) in
-        let one = match-plain 123 game (game_at board game) (omega (arith, few)) valid in
+        let one = match-plain 123 game (game_at board game) few valid in
         let more = plain true games p.1 in
         ((one.0, more.0), omega (arith, comma later, one.1, more.1))
 

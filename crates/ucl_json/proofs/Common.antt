@@ -32,7 +32,7 @@ unfoldable pub use Rattle.ucl_json.specs.BoardLines.{parse_board_line, parse_eac
 pub use Rattle.ucl_json.specs.BoardLines.{unless_bad}
 pub use Rattle.ucl_json.specs.Lines.{AreLinesOfValues, IsFlat, IsOneLine, json_line}
 pub use Rattle.ucl_json.specs.Values.{club_items, club_value, items_of, mark_name, match_items}
-unfoldable pub use Rattle.ucl_json.specs.Values.{accepted_value, edition_screen_value}
+unfoldable pub use Rattle.ucl_json.specs.Values.{edition_screen_value}
 pub use Rattle.ucl_json.specs.Values.{match_value, number_value, place_items, refused_by, reply_value}
 unfoldable pub use Rattle.ucl_json.specs.Values.{matches_value, place_value}
 pub use Rattle.ucl_json.specs.Values.{sides_value, with_member, word_items, words_value}

@@ -2,7 +2,6 @@ pub mod Common
 pub mod Places
 pub mod OneLine
 pub mod Members
-pub mod MendedFlat
 pub mod PlainValues
 pub mod AnswerSizes
 pub mod ScreenLength

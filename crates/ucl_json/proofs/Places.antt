@@ -1,12 +1,13 @@
 -- Elements that are added one after the other, and answers that have no float and are not nested deep.
 use Rattle.ucl_json.proofs.Common.{BoardHeader, Data, Err, IsFlat, Items, List, MatchRecord, NamedClub, Ok, Profile, Refusal, Result, Row}
-use Rattle.ucl_json.proofs.Common.{Value, [], accepted_value, ap, arith, depth, edition_screen_value, false, found_of, game_at, get_or}
+use Rattle.ucl_json.proofs.Common.{Value, [], ap, arith, depth, edition_screen_value, false, found_of, game_at, get_or}
 use Rattle.ucl_json.proofs.Common.{has_float, hex_digits, is_float, item, items_depth, items_have_float, items_of, items_view, length}
 use Rattle.ucl_json.proofs.Common.{match_items, match_numbers, match_value, matches_value, negsuc, no_items, of_integer, place_items}
 use Rattle.ucl_json.proofs.Common.{place_value, pos, refl, refusal_code, refusal_name, refused_by, reply_value, rows_of, screen_value}
 use Rattle.ucl_json.proofs.Common.{serde_json_on_literals, string, take, take_all, take_more, view, with_member, word_items, words_value, ℕ}
 use Rattle.ucl_json.proofs.Common.{ℤ, ◌++◌, ◌+◌, ◌-ℤ◌, ◌-◌, ◌<◌, ◌∙◌, ◌∷◌, ◌≡◌, ◌≤◌}
 use Rattle.std.specs.Prelude.{None, Option, Some}
+use Rattle.ucl_json.specs.Mended.{mended_value}
 use Rattle.ucl_word.specs.declared.event.Accepted.{Accepted}
 use Rattle.ucl_screen.specs.declared.night.NightEvent.{NightEvent}
 use Rattle.ucl_screen.proofs.EventsInTurn.{match-numbered}
@@ -100,12 +101,15 @@ refused-flat row event code name None m = record { whole = refl; shallow = omega
 refused-flat row event code name (Some found) m = record { whole = refl; shallow = omega arith }
 
 -- the JSON answer to an event, accepted or refused, has no float, and is nested no deeper than can be read back
-pub reply_flat : (row : ℕ) (event : NightEvent) (reply : Result Accepted Refusal) (header : BoardHeader) (board : List ℕ) (roster : List NamedClub)
-    → IsFlat (reply_value row event reply header board roster)
-unfolding accepted_value
-reply_flat row event (Ok accepted) header board roster = let w = words-flat board in record { whole = rw w.whole refl; shallow = omega (arith, w.shallow) }
-reply_flat row event (Err refusal) header board roster =
+pub reply_flat : (row : ℕ) (event : NightEvent) (reply : Result Accepted Refusal) (edition : ℕ) (board : List ℕ) → IsFlat (reply_value row event reply edition board)
+reply_flat row event (Ok accepted) edition board = record { whole = refl; shallow = omega arith }
+reply_flat row event (Err refusal) edition board =
     refused-flat row event (refusal_code refusal) (refusal_name refusal) (found_of refusal) (game_at board event.call.game)
+
+-- the JSON answer to a mend has no float, and is nested no deeper than can be read back
+pub mended_flat : (row : ℕ) (without : Option ℕ) (left_out edition version : ℕ) (value : Data) → value ≡ mended_value row without left_out edition version → IsFlat value
+mended_flat row None left_out edition version value is = rw is (record { whole = refl; shallow = omega arith })
+mended_flat row (Some named) left_out edition version value is = rw is (record { whole = refl; shallow = omega arith })
 
 -- the JSON items of the matches of a board have no float, and are nested two deep at most
 games-flat : (board games : List ℕ) → AreFlat (match_items board games) 2

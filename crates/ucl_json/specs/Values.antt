@@ -6,7 +6,7 @@ use Rattle.ucl_word.specs.declared.event.Accepted.{Accepted}
 use Rattle.ucl_word.specs.declared.record.MatchRecord.{MatchRecord}
 use Rattle.ucl_word.specs.declared.refusal.Refusal.{Refusal}
 use Rattle.ucl_word.specs.Names.{found_of, kind_name, refusal_code, refusal_name}
-use Rattle.ucl_board.specs.Fixtures.{match_numbers}
+use Rattle.ucl_board.specs.Fixtures.{fixture_of, match_numbers}
 use Rattle.ucl_board.specs.Words.{game_at, version_of}
 use Rattle.ucl_order.specs.declared.mark.Mark.{Mark}
 use Rattle.ucl_order.specs.declared.mark.Mark.TheVariants.{Plus, Minus, Blank}
@@ -39,7 +39,7 @@ abbrev pub items_of : {T : Type 0} → (T → Data) → List T → Items
 items_of value_of [] = no_items
 items_of value_of (x ∷ xs) = item (value_of x) (items_of value_of xs)
 
--- ---- what a board state is told by
+-- ---- words and clubs
 
 -- the elements of an array: each of these words in sixteen hexadecimal digits
 abbrev pub word_items : List ℕ → Items
@@ -55,31 +55,25 @@ club_value roster slot = object (
 abbrev pub club_items : List NamedClub → Items
 club_items roster = item (club_value roster 1) (item (club_value roster 2) (item (club_value roster 3) (item (club_value roster 4) no_items)))
 
--- members, with those that tell a board: the group, the tie-break order, the version, the clubs and the words
-abbrev pub with_board : ℕ → Profile → List ℕ → List NamedClub → Members → Members
-with_board group profile board roster members =
-    put (codes "words") (array (word_items board)) (
-    put (codes "clubs") (array (club_items roster)) (
-    put (codes "version") (number_value (version_of board)) (
-    put (codes "order") (string (profile_name profile)) (
-    put (codes "group") (string (group ∷ [])) members))))
-
 -- ---- a match as it stands
 
 -- an array of two numbers: one of the home side, and one of the visiting side
 abbrev pub sides_value : ℕ → ℕ → Data
 sides_value home away = array (item (number_value home) (item (number_value away) no_items))
 
--- the match with the number `game`, as its record m stands; its reporter is that of its last event, 0 if it has none
+-- the match with the number `game`, as its record m stands, between the clubs in the slots `home` and `away`; its reporter is that of its
+-- last event, 0 if it has none
 abbrev pub match_value : ℕ → MatchRecord → Data
 match_value game m = object (
+    member (codes "away") (number_value (fixture_of game).away) (
     member (codes "expulsions") (sides_value m.home_expulsions m.away_expulsions) (
+    member (codes "home") (number_value (fixture_of game).home) (
     member (codes "match") (number_value game) (
     member (codes "number") (number_value m.number) (
     member (codes "reporter") (number_value m.reporter) (
     member (codes "score") (sides_value m.home_goals m.away_goals) (
     member (codes "state") (string (state_name m.state)) (
-    member (codes "yellows") (sides_value m.home_yellows m.away_yellows) no_members)))))))
+    member (codes "yellows") (sides_value m.home_yellows m.away_yellows) no_members)))))))))
 
 -- the elements of an array: the matches of a board that have these numbers
 abbrev pub match_items : List ℕ → List ℕ → Items
@@ -95,31 +89,18 @@ matches_value row board roster = object (
 
 -- ---- replies
 
--- members, with those that tell an event and the number of its row
-abbrev pub with_event : ℕ → NightEvent → Members → Members
-with_event row event members =
-    put (codes "event") (string (kind_name event.call.kind)) (
-    put (codes "expected") (number_value event.call.expected) (
-    put (codes "match") (number_value event.call.game) (
-    put (codes "reporter") (number_value event.reporter) (
-    put (codes "row") (number_value row) members))))
-
--- the reply to an event that was accepted: the event, its number in its match, the header, the clubs, and the board after it
-unfoldable pub accepted_value : ℕ → NightEvent → ℕ → BoardHeader → List ℕ → List NamedClub → Data
-accepted_value row event event_number header board roster = object (
-    member (codes "clubs") (array (club_items roster)) (
-    member (codes "edition") (number_value header.edition) (
+-- the reply to an event that was accepted: the event, its number in its match, and the edition and the version of the board after it
+abbrev pub accepted_value : ℕ → NightEvent → ℕ → ℕ → ℕ → Data
+accepted_value row event event_number edition version = object (
+    member (codes "edition") (number_value edition) (
     member (codes "event") (string (kind_name event.call.kind)) (
     member (codes "expected") (number_value event.call.expected) (
-    member (codes "group") (string (header.group ∷ [])) (
     member (codes "match") (number_value event.call.game) (
     member (codes "number") (number_value event_number) (
-    member (codes "order") (string (profile_name header.profile)) (
     member (codes "reply") (string (codes "ok")) (
     member (codes "reporter") (number_value event.reporter) (
     member (codes "row") (number_value row) (
-    member (codes "version") (number_value (version_of board)) (
-    member (codes "words") (array (word_items board)) no_members)))))))))))))
+    member (codes "version") (number_value version) no_members)))))))))
 
 -- the reply to an event that is refused and not stale: the event, and the code and the name of the refusal
 abbrev pub coded_value : ℕ → NightEvent → ℕ → List ℕ → Data
@@ -144,10 +125,10 @@ refused_by row event code name (Some found) m =
 abbrev pub refused_value : ℕ → NightEvent → Refusal → MatchRecord → Data
 refused_value row event refusal m = refused_by row event (refusal_code refusal) (refusal_name refusal) (found_of refusal) m
 
--- the reply to an event, by what the board answered to it; `board` is the board after it
-abbrev pub reply_value : ℕ → NightEvent → Result Accepted Refusal → BoardHeader → List ℕ → List NamedClub → Data
-reply_value row event (Ok accepted) header board roster = accepted_value row event accepted.number header board roster
-reply_value row event (Err refusal) header board roster = refused_value row event refusal (game_at board event.call.game)
+-- the reply to an event, by what the board answered to it; `board` is the board after it, in this edition
+abbrev pub reply_value : ℕ → NightEvent → Result Accepted Refusal → ℕ → List ℕ → Data
+reply_value row event (Ok accepted) edition board = accepted_value row event accepted.number edition (version_of board)
+reply_value row event (Err refusal) edition board = refused_value row event refusal (game_at board event.call.game)
 
 -- the refusal of a row, with this code and name: `field` is the name of its bad field, and `text` the start of its text
 abbrev pub bad_value : ℕ → ℕ → List ℕ → List ℕ → List ℕ → Data
@@ -183,21 +164,6 @@ mark_name Blank = codes ""
 -- the goals of a club less those against it, which may be negative
 abbrev pub difference_value : Row → Data
 difference_value row = number (of_integer (pos row.goals_for -ℤ pos row.goals_against))
-
--- members, with how many matches a row of the table counts
-abbrev pub with_results : Row → Members → Members
-with_results row members =
-    put (codes "lost") (number_value row.losses) (
-    put (codes "drawn") (number_value row.draws) (
-    put (codes "won") (number_value row.wins) (
-    put (codes "played") (number_value row.played) members)))
-
--- members, with the goals and the points of a row of the table, without the difference
-abbrev pub with_goals : Row → Members → Members
-with_goals row members =
-    put (codes "points") (number_value row.points) (
-    put (codes "goals_against") (number_value row.goals_against) (
-    put (codes "goals_for") (number_value row.goals_for) members))
 
 -- a row of the table, with the name of its club
 unfoldable pub place_value : List NamedClub → Row → Data

@@ -2,17 +2,17 @@
 
 ghost use Rattle.std.specs.Prelude.{◌≡◌, ◌≤◌, [], ◌∷◌, IfOk};
 ghost use Rattle.serde_json.specs.Data.{string};
-ghost use Rattle.serde_json.specs.View.{items_view, members_view, view};
+ghost use Rattle.serde_json.specs.View.{items_view, view};
 ghost use Rattle.ucl_board.specs.Fixtures.{IsSlot, match_numbers};
 ghost use Rattle.ucl_screen.specs.Numbers.{hex_digits};
 ghost use Rattle.ucl_screen.specs.Screen.{IsGroup};
-ghost use Rattle.ucl_json.specs.Values.{club_items, club_value, match_items, match_value, sides_value, with_board, with_event, word_items};
+ghost use Rattle.ucl_json.specs.Values.{club_items, club_value, match_items, match_value, sides_value, word_items};
 
-use serde_json::{Map, Value, json, put};
+use serde_json::{Value, json};
 use std::alloc::{AllocError, Global};
-use ucl_board::Board;
-use ucl_order::{Profile, Roster};
-use ucl_screen::{NightEvent, state_name, text_of};
+use ucl_board::{Board, away_of, home_of};
+use ucl_order::Roster;
+use ucl_screen::{state_name, text_of};
 use ucl_word::{MatchNo, MatchRecord};
 
 /// Returns the letter of a group, as text.
@@ -78,7 +78,8 @@ fn sides_value(alloc: Global, home: u8, away: u8) -> Result<Value, AllocError>
     json!(in alloc; [home, away])
 }
 
-/// Returns a match as a value: `game` is its number among the twelve, and `stands` what has happened in it so far.
+/// Returns a match as a value: `game` is its number among the twelve, and `stands` what has happened in it so far. Its clubs are told by
+/// their slots.
 pub(crate) fn match_value(
     alloc: Global,
     game: MatchNo,
@@ -88,6 +89,8 @@ pub(crate) fn match_value(
 {
     json!(in alloc; {
         "match": game.get(),
+        "home": home_of(game),
+        "away": away_of(game),
         "number": stands.number,
         "state": state_name(stands.state),
         "score": sides_value(alloc, stands.home_goals, stands.away_goals)?,
@@ -109,57 +112,4 @@ pub(crate) fn match_values(alloc: Global, board: &Board) -> Result<Vec<Value>, A
         }
     }
     Ok(values)
-}
-
-/// Puts what an event is and the row on which it came among the members of an answer.
-pub(crate) fn put_event(
-    members: &mut Map<String, Value>,
-    alloc: Global,
-    row: u64,
-    event: &NightEvent,
-) -> Result<(), AllocError>
-    ensures { IfOk result (λ _. members_view members.new.entries
-        ≡ with_event row event.now (members_view members.old.entries)) }
-{
-    put(members, alloc, "row", Value::from(row))?;
-    put(
-        members,
-        alloc,
-        "reporter",
-        Value::from(event.reporter.get()),
-    )?;
-    put(members, alloc, "match", Value::from(event.call.game.get()))?;
-    put(members, alloc, "expected", Value::from(event.call.expected))?;
-    put(
-        members,
-        alloc,
-        "event",
-        json!(in alloc; event.call.kind.name())?,
-    )
-}
-
-/// Puts what tells a board among the members of an answer: the group, the tie-break order, the version, the clubs and the words.
-pub(crate) fn put_board(
-    members: &mut Map<String, Value>,
-    alloc: Global,
-    group: u8,
-    profile: Profile,
-    board: &Board,
-    roster: &Roster,
-) -> Result<(), AllocError>
-    requires { IsGroup group }
-    ensures { IfOk result (λ _. members_view members.new.entries
-        ≡ with_board group profile board.now roster.now (members_view members.old.entries)) }
-{
-    put(members, alloc, "group", json!(in alloc; letter_of(group))?)?;
-    put(members, alloc, "order", json!(in alloc; profile.name())?)?;
-    put(members, alloc, "version", Value::from(board.version()))?;
-    put(
-        members,
-        alloc,
-        "clubs",
-        Value::Array(club_values(alloc, roster)?),
-    )?;
-    let words = word_values(alloc, board.words().as_slice())?;
-    put(members, alloc, "words", Value::Array(words))
 }

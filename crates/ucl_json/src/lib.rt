@@ -1,5 +1,5 @@
-//! The answers of `ucl_live` as JSON: each is one object on one line, with a member `reply` that says what kind of answer it is. The answer
-//! to an accepted event and a screen carry a board state: group, order, edition, clubs and words. `parse_board_line` reads it back.
+//! The answers of `ucl_live` as JSON: each is one object on one line, with a member `reply` that says what kind of answer it is. Only a
+//! screen carries a board state: group, order, edition, clubs and words. `parse_board_line` reads it back.
 #![tactic(auto)]
 
 mod answer_parts;

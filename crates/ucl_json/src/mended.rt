@@ -1,36 +1,30 @@
-//! The lines of JSON that answer a mend: each event that the rules then refuse, the board after the mend, or why the mend is refused. `row`
-//! is the number of a row.
+//! The lines of JSON that answer a mend: each event that the rules then refuse, that the mend is done, or why it is refused. `row` is the
+//! number of a row.
 
 ghost use Rattle.std.specs.Prelude.{◌≡◌, IfOk, string_bytes};
 ghost use Rattle.serde_json.specs.View.{view};
-ghost use Rattle.ucl_screen.specs.Screen.{IsGroup};
 ghost use Rattle.ucl_json.specs.Lines.{IsLineOf};
-ghost use Rattle.ucl_json.specs.Mended.{left_out_value, mend_refused_value, mended_value, mended_with};
+ghost use Rattle.ucl_json.specs.Mended.{left_out_value, mend_refused_value, mended_value};
 
-use crate::answer_parts::put_board;
-use crate::header::BoardHeader;
-use crate::line::{format_line, with_member};
-use serde_json::{Map, Value, json, put};
+use crate::line::format_line;
+use serde_json::{Value, json};
 use std::alloc::{AllocError, Global};
-use ucl_board::{Board, Entry};
-use ucl_order::Roster;
+use ucl_board::Entry;
 use ucl_word::Refusal;
 
-/// What a mend came to: its row, the row whose event it takes back, if any, and the board after it.
-#[derive(Drop)]
-pub struct MendReply<'r> {
+/// What a mend came to: its row, the row whose event it takes back, if any, and how many events then stand, in which edition.
+#[derive(Clone, Copy, Debug, PartialEq, Eq)]
+pub struct MendReply {
     /// The number of the row on which the mend came.
     pub row: u64,
     /// The row whose event the mend takes back, if it names one.
     pub without: Option<u32>,
     /// How many events the rules then refuse.
     pub left_out: u16,
-    /// The group, the tie-break order of the clubs and the edition of the board.
-    pub header: BoardHeader,
-    /// The board after the mend.
-    pub board: &'r Board,
-    /// The clubs of the board.
-    pub roster: &'r Roster,
+    /// The version of the board after the mend.
+    pub version: u16,
+    /// The edition of the board after the mend.
+    pub edition: u16,
 }
 
 /// Returns an event that a mend leaves out, as a value of JSON: `row` is the row that entered it, and `refusal` why the rules then refuse it.
@@ -71,49 +65,42 @@ pub fn left_out_json(
     format_line(alloc, &value)
 }
 
-/// Returns the answer to a mend, as a value of JSON without the row that it names.
-#[tactic(auto, unfolding(crate::specs::Mended::mended_value))]
-fn mended_value(alloc: Global, reply: &MendReply<'_>) -> Result<Value, AllocError>
-    requires { IsGroup reply.now.header.group }
-    ensures { IfOk result (λ value. view value ≡ mended_value reply.now.row reply.now.left_out
-        reply.now.header reply.now.board.now reply.now.roster.now) }
+/// Returns the answer to a mend, as a value of JSON.
+fn mended_value(alloc: Global, reply: &MendReply) -> Result<Value, AllocError>
+    ensures { IfOk result (λ value. view value ≡ mended_value reply.now.row reply.now.without
+        reply.now.left_out reply.now.edition reply.now.version) }
 {
-    let header = reply.header;
-    let mut members = Map::new(alloc);
-    put(&mut members, alloc, "row", Value::from(reply.row))?;
-    put(&mut members, alloc, "reply", json!(in alloc; "mended")?)?;
-    put(&mut members, alloc, "left_out", Value::from(reply.left_out))?;
-    put(&mut members, alloc, "edition", Value::from(header.edition))?;
-    put_board(
-        &mut members,
-        alloc,
-        header.group,
-        header.profile,
-        reply.board,
-        reply.roster,
-    )?;
-    Ok(Value::Object(members))
+    match reply.without {
+        Some(without) => json!(in alloc; {
+            "row": reply.row,
+            "reply": "mended",
+            "without": without,
+            "left_out": reply.left_out,
+            "version": reply.version,
+            "edition": reply.edition
+        }),
+        None => json!(in alloc; {
+            "row": reply.row,
+            "reply": "mended",
+            "left_out": reply.left_out,
+            "version": reply.version,
+            "edition": reply.edition
+        }),
+    }
 }
 
-/// Returns the line that answers a mend, with the board after it.
+/// Returns the line that answers a mend.
 ///
 /// # Errors
 ///
 /// If there is no memory.
-pub fn mended_json(alloc: Global, reply: &MendReply<'_>) -> Result<String, AllocError>
-    requires { IsGroup reply.now.header.group }
-    ensures { IfOk result (λ line. IsLineOf (mended_with reply.now.without
-        (mended_value reply.now.row reply.now.left_out reply.now.header reply.now.board.now
-        reply.now.roster.now)) (string_bytes line)) }
+#[tactic(auto, using(crate::proofs::Places::mended_flat))]
+pub fn mended_json(alloc: Global, reply: &MendReply) -> Result<String, AllocError>
+    ensures { IfOk result (λ line. IsLineOf (mended_value reply.now.row reply.now.without
+        reply.now.left_out reply.now.edition reply.now.version) (string_bytes line)) }
 {
     let value = mended_value(alloc, reply)?;
-    match reply.without {
-        None => format_line(alloc, &value),
-        Some(row) => {
-            let value = with_member(alloc, value, "without", Value::from(row))?;
-            format_line(alloc, &value)
-        }
-    }
+    format_line(alloc, &value)
 }
 
 /// Returns a mend that is refused, as a value of JSON, by the code and the name of its refusal.

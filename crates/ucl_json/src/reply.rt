@@ -4,17 +4,13 @@
 ghost use Rattle.std.specs.Prelude.{◌≡◌, IfOk, string_bytes};
 ghost use Rattle.serde_json.specs.View.{view};
 ghost use Rattle.ucl_word.specs.Names.{refusal_code, refusal_name};
-ghost use Rattle.ucl_board.specs.Words.{game_at};
-ghost use Rattle.ucl_screen.specs.Screen.{IsGroup};
+ghost use Rattle.ucl_board.specs.Words.{game_at, version_of};
 ghost use Rattle.ucl_json.specs.Lines.{IsLineOf};
 ghost use Rattle.ucl_json.specs.Values.{accepted_value, bad_row_value, coded_value, matches_value, refused_value, reply_value, words_value};
 
-use crate::answer_parts::{
-    club_values, match_value, match_values, put_board, put_event, word_values,
-};
-use crate::header::BoardHeader;
+use crate::answer_parts::{club_values, match_value, match_values, word_values};
 use crate::line::{format_line, with_member};
-use serde_json::{Map, Value, json, put};
+use serde_json::{Value, json};
 use std::alloc::{AllocError, Global};
 use ucl_board::Board;
 use ucl_order::Roster;
@@ -30,36 +26,29 @@ pub struct EventReply<'r> {
     pub event: &'r NightEvent,
     /// What the board answered to it.
     pub outcome: Result<Accepted, Refusal>,
-    /// The group, the tie-break order of the clubs and the edition of the board.
-    pub header: BoardHeader,
+    /// The edition of the board.
+    pub edition: u16,
     /// The board after the event.
     pub board: &'r Board,
-    /// The clubs of the board.
-    pub roster: &'r Roster,
 }
 
-/// Returns the reply to an event that was accepted, as a value of JSON: with its event number, the clubs, and the board after it.
-#[tactic(auto, unfolding(crate::specs::Values::accepted_value))]
+/// Returns the reply to an event that was accepted, as a value of JSON: with its event number, and the version of the board after it.
 fn accepted_value(alloc: Global, reply: &EventReply<'_>, number: u16) -> Result<Value, AllocError>
-    requires { IsGroup reply.now.header.group }
     ensures { IfOk result (λ value. view value ≡ accepted_value reply.now.row reply.now.event.now
-        number reply.now.header reply.now.board.now reply.now.roster.now) }
+        number reply.now.edition (version_of reply.now.board.now)) }
 {
-    let header = reply.header;
-    let mut members = Map::new(alloc);
-    put_event(&mut members, alloc, reply.row, reply.event)?;
-    put(&mut members, alloc, "reply", json!(in alloc; "ok")?)?;
-    put(&mut members, alloc, "number", Value::from(number))?;
-    put(&mut members, alloc, "edition", Value::from(header.edition))?;
-    put_board(
-        &mut members,
-        alloc,
-        header.group,
-        header.profile,
-        reply.board,
-        reply.roster,
-    )?;
-    Ok(Value::Object(members))
+    let event = reply.event;
+    json!(in alloc; {
+        "row": reply.row,
+        "reply": "ok",
+        "reporter": event.reporter.get(),
+        "match": event.call.game.get(),
+        "expected": event.call.expected,
+        "event": event.call.kind.name(),
+        "number": number,
+        "version": reply.board.version(),
+        "edition": reply.edition
+    })
 }
 
 /// Returns the reply to an event that is refused, as a value of JSON, without the members that only the reply to a stale event has.
@@ -67,17 +56,17 @@ fn coded_value(alloc: Global, reply: &EventReply<'_>, refusal: Refusal) -> Resul
     ensures { IfOk result (λ value. view value ≡ coded_value reply.now.row reply.now.event.now
         (refusal_code refusal) (refusal_name refusal)) }
 {
-    let mut members = Map::new(alloc);
-    put_event(&mut members, alloc, reply.row, reply.event)?;
-    put(&mut members, alloc, "reply", json!(in alloc; "refused")?)?;
-    put(&mut members, alloc, "code", Value::from(refusal.code()))?;
-    put(
-        &mut members,
-        alloc,
-        "name",
-        json!(in alloc; refusal.name())?,
-    )?;
-    Ok(Value::Object(members))
+    let event = reply.event;
+    json!(in alloc; {
+        "row": reply.row,
+        "reply": "refused",
+        "reporter": event.reporter.get(),
+        "match": event.call.game.get(),
+        "expected": event.call.expected,
+        "event": event.call.kind.name(),
+        "code": refusal.code(),
+        "name": refusal.name()
+    })
 }
 
 /// Returns the reply to an event that is refused, as a value of JSON; if it is stale, with its match as it stands.
@@ -101,17 +90,15 @@ fn refused_value(
     }
 }
 
-/// Returns the line of the reply to an event. If the event was accepted, it has the header, the clubs and the words of the board then,
-/// so that the board can be read from it alone. If the event is stale, the line has its match as it stands.
+/// Returns the line of the reply to an event. If the event was accepted, it has the version and the edition of the board then; if it is
+/// stale, its match as it stands.
 ///
 /// # Errors
 ///
 /// If there is no memory.
 pub fn reply_json(alloc: Global, reply: &EventReply<'_>) -> Result<String, AllocError>
-    requires { IsGroup reply.now.header.group }
     ensures { IfOk result (λ line. IsLineOf (reply_value reply.now.row reply.now.event.now
-        reply.now.outcome reply.now.header reply.now.board.now reply.now.roster.now)
-        (string_bytes line)) }
+        reply.now.outcome reply.now.edition reply.now.board.now) (string_bytes line)) }
 {
     let outcome = reply.outcome;
     let value = match outcome {

@@ -1,16 +1,16 @@
 //! The screen of a board as JSON. `row` is the number of the row that asks for it. `Err` says that there is no memory.
 
 ghost use Rattle.std.specs.Prelude.{◌≡◌, ◌≤◌, ◌-ℤ◌, pos, All, [], ◌∷◌, IfOk, length, string_bytes};
-ghost use Rattle.serde_json.specs.View.{items_view, members_view, view};
+ghost use Rattle.serde_json.specs.View.{items_view, view};
 ghost use Rattle.ucl_order.specs.Rows.{IsWithinTable, rows_of};
 ghost use Rattle.ucl_screen.specs.Screen.{IsGroup};
 ghost use Rattle.ucl_json.specs.Lines.{IsLineOf};
-ghost use Rattle.ucl_json.specs.Values.{difference_value, edition_screen_value, mark_name, place_items, place_value, screen_value, with_goals, with_results};
+ghost use Rattle.ucl_json.specs.Values.{difference_value, edition_screen_value, mark_name, place_items, place_value, screen_value};
 
-use crate::answer_parts::{match_values, put_board};
+use crate::answer_parts::{club_values, letter_of, match_values, word_values};
 use crate::header::BoardHeader;
 use crate::line::{format_line, with_member};
-use serde_json::{Map, Value, json, put};
+use serde_json::{Value, json};
 use std::alloc::{AllocError, Global};
 use ucl_board::Board;
 use ucl_order::{Mark, Profile, Roster, Row, standings};
@@ -35,62 +35,26 @@ fn difference_value(row: &Row) -> Value
     Value::from(i32::from(row.goals_for) - i32::from(row.goals_against))
 }
 
-/// Puts how many matches a row of the table counts among the members of an answer.
-fn put_results(members: &mut Map<String, Value>, alloc: Global, row: &Row) -> Result<(), AllocError>
-    ensures { IfOk result (λ _. members_view members.new.entries
-        ≡ with_results row.now (members_view members.old.entries)) }
-{
-    put(members, alloc, "played", Value::from(row.played))?;
-    put(members, alloc, "won", Value::from(row.wins))?;
-    put(members, alloc, "drawn", Value::from(row.draws))?;
-    put(members, alloc, "lost", Value::from(row.losses))
-}
-
-/// Puts the goals and the points of a row of the table among the members of an answer.
-fn put_goals(members: &mut Map<String, Value>, alloc: Global, row: &Row) -> Result<(), AllocError>
-    ensures { IfOk result (λ _. members_view members.new.entries
-        ≡ with_goals row.now (members_view members.old.entries)) }
-{
-    put(members, alloc, "goals_for", Value::from(row.goals_for))?;
-    put(
-        members,
-        alloc,
-        "goals_against",
-        Value::from(row.goals_against),
-    )?;
-    put(members, alloc, "points", Value::from(row.points))
-}
-
 /// Returns a row of the table as a value of JSON, with the name of its club.
 #[tactic(auto, unfolding(crate::specs::Values::place_value))]
 fn place_value(alloc: Global, row: &Row, roster: &Roster) -> Result<Value, AllocError>
     requires { IsWithinTable row.now }
     ensures { IfOk result (λ value. view value ≡ place_value roster.now row.now) }
 {
-    let mut members = Map::new(alloc);
-    put(&mut members, alloc, "place", Value::from(row.place))?;
-    put(
-        &mut members,
-        alloc,
-        "mark",
-        json!(in alloc; mark_name(row.mark))?,
-    )?;
-    put(&mut members, alloc, "slot", Value::from(row.slot))?;
-    put(
-        &mut members,
-        alloc,
-        "club",
-        json!(in alloc; text_of(roster.name(row.slot)))?,
-    )?;
-    put_results(&mut members, alloc, row)?;
-    put_goals(&mut members, alloc, row)?;
-    put(
-        &mut members,
-        alloc,
-        "goal_difference",
-        difference_value(row),
-    )?;
-    Ok(Value::Object(members))
+    json!(in alloc; {
+        "place": row.place,
+        "mark": mark_name(row.mark),
+        "slot": row.slot,
+        "club": text_of(roster.name(row.slot)),
+        "played": row.played,
+        "won": row.wins,
+        "drawn": row.draws,
+        "lost": row.losses,
+        "goals_for": row.goals_for,
+        "goals_against": row.goals_against,
+        "goal_difference": difference_value(row),
+        "points": row.points
+    })
 }
 
 /// Returns the rows of the table as values of JSON, in their order.
@@ -119,19 +83,17 @@ fn screen_value(
     ensures { IfOk result (λ value. view value
         ≡ screen_value row profile board.now roster.now group) }
 {
-    let table = place_values(alloc, &standings(board, roster, profile), roster)?;
-    let mut members = Map::new(alloc);
-    put(&mut members, alloc, "row", Value::from(row))?;
-    put(&mut members, alloc, "reply", json!(in alloc; "screen")?)?;
-    put(
-        &mut members,
-        alloc,
-        "in_play",
-        Value::from(matches_in_play(board)),
-    )?;
-    put(&mut members, alloc, "table", Value::Array(table))?;
-    put_board(&mut members, alloc, group, profile, board, roster)?;
-    Ok(Value::Object(members))
+    json!(in alloc; {
+        "row": row,
+        "reply": "screen",
+        "in_play": matches_in_play(board),
+        "table": place_values(alloc, &standings(board, roster, profile), roster)?,
+        "group": letter_of(group),
+        "order": profile.name(),
+        "version": board.version(),
+        "clubs": club_values(alloc, roster)?,
+        "words": word_values(alloc, board.words().as_slice())?
+    })
 }
 
 /// Returns the line of the screen of a board, for a group and by the tie-break order `profile`. The clubs and the words are in it.

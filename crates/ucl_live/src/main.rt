@@ -6,7 +6,7 @@ use std::process::ExitCode;
 use ucl_command::words_of;
 pub use ucl_command::{LineFault, live_args};
 use ucl_io::LoggedIo;
-pub use ucl_live_runs::run_session;
+pub use ucl_live_runs::{run_live, run_session};
 use ucl_screen::{FromRead, ToWrite};
 
 /// Runs the program over the standard streams. Standard output has no buffer, so that nothing is left to flush.
@@ -14,9 +14,5 @@ fn main(rt: HostRuntime) -> ExitCode {
     let alloc = rt.alloc();
     let mut logged_io = LoggedIo::new(FromRead::new(rt.stdin()), ToWrite::new(rt.stdout()));
     let mut errors = ToWrite::new(rt.stderr());
-    let asked = match words_of(&rt, alloc) {
-        Ok(words) => live_args(alloc, &words),
-        Err(fault) => Err(fault),
-    };
-    ExitCode::from(run_session(alloc, asked, &mut logged_io, &mut errors))
+    ExitCode::from(run_live(alloc, words_of(&rt, alloc), &mut logged_io, &mut errors))
 }

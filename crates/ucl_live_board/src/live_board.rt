@@ -1,6 +1,6 @@
 //! `LiveBoard`: what every board is that threads share.
 
-ghost use Rattle.std.specs.Prelude.{◌≡◌, MatchResult, Result};
+ghost use Rattle.std.specs.Prelude.{◌≡◌, MatchResult, Result, ⊤};
 ghost use Rattle.ucl_word.specs.declared.event.EventCall.{EventCall};
 ghost use Rattle.ucl_word.specs.declared.event.Accepted.{Accepted};
 ghost use Rattle.ucl_word.specs.declared.refusal.Refusal.{Refusal};
@@ -40,7 +40,7 @@ pub trait LiveBoard: Sync {
     ghost reporter: { Self.ReporterPass → PassView };
 
     // What this kind of board promises of one report: the pass before it, the event, the reply, and the pass after it.
-    ghost reported: { Self.ReporterPass → EventCall → Result Accepted Refusal → Self.ReporterPass → Type 0 };
+    ghost reported: { Self.ReporterPass → EventCall → Result Accepted Refusal → Self.ReporterPass → Type 0 } = { λ _ _ _ _. ⊤ };
 
     /// Enters an event under the number of the pass. An accepted event is the last that the pass has then seen.
     ///

@@ -1,22 +1,22 @@
 -- The lines of answers, and what each carries.
 use Rattle.ucl_live_runs.proofs.Common.{All, All-append, All-cons, All-head, All-nil, All-tail, All-weaker, AreWords, BoardState, Bool}
-use Rattle.ucl_live_runs.proofs.Common.{Data, HasNoFeed, HasNumbers, IfSome, IsRoster, IsValid, IsWord, Kind, List, MatchRecord, NamedClub}
+use Rattle.ucl_live_runs.proofs.Common.{Data, HasNoFeed, IfSome, IsRoster, IsValid, IsWord, Kind, List, MatchRecord, NamedClub}
 use Rattle.ucl_live_runs.proofs.Common.{NightEvent, None, Option, Refusal, Some, [], and_from, ap, append_cancel_right, arith}
-use Rattle.ucl_live_runs.proofs.Common.{bad_row_value, begun_append, begun_ended, begun_line, begun_none, cases_Bool, cases_lt}
+use Rattle.ucl_live_runs.proofs.Common.{bad_row_value, begun_append, begun_ended, begun_line, begun_none, cases_Bool}
 use Rattle.ucl_live_runs.proofs.Common.{compact_text, ended_append, ended_line, ended_lines, ended_none, escape_byte, false, field_name}
-use Rattle.ucl_live_runs.proofs.Common.{fits, found_of, if◌then◌else◌, inl, inr, is_printed, json_line, length, length-take, length-take-le}
+use Rattle.ucl_live_runs.proofs.Common.{fits, found_of, if◌then◌else◌, inl, inr, is_printed, json_line, length, length-take}
 use Rattle.ucl_live_runs.proofs.Common.{list_all, map, map-append, matches_value, number_valid, one_line, parse_board_line}
 use Rattle.ucl_live_runs.proofs.Common.{parse_board_state, printed, quoted, record_at, refl, refusal_code, refusal_name, refusal_of}
-use Rattle.ucl_live_runs.proofs.Common.{refused_by, refused_value, serde_json_on_literals, shown_text, subst, sym, take, take_all, too-long}
+use Rattle.ucl_live_runs.proofs.Common.{refused_by, refused_value, serde_json_on_literals, shown_text, subst, sym, take, take_all}
 use Rattle.ucl_live_runs.proofs.Common.{true, word_high, word_valid, words_value, ℕ, ◌++◌, ◌/◌, ◌<◌, ◌^◌, ◌∙◌, ◌∷◌, ◌≡◌, ◌≢◌, ◌≤◌, ◌⊎◌}
 use Rattle.ucl_rows.specs.declared.bad_row.BadField.{BadField}
 use Rattle.ucl_rows.specs.declared.bad_row.BadField.TheVariants.{Count}
 use Rattle.ucl_word.specs.declared.refusal.Refusal.TheVariants.{AlreadyStarted, Finished, LimitReached, NoCaution, NoGoal, NotFinished}
 use Rattle.ucl_word.specs.declared.refusal.Refusal.TheVariants.{NotStarted}
 use Rattle.ucl_word.specs.declared.refusal.Refusal.TheVariants.{NumberFull, Stale}
-use Rattle.ucl_json.proofs.AnswerSizes.{digits-20, kind-text, match-plain, refusal-text, words-plain}
-use Rattle.ucl_json.proofs.PlainValues.{IsShortPlain, IsText, parsed-line, quoted-length}
-use Rattle.ucl_live_runs.proofs.AnswerValues.{matches-short}
+use Rattle.ucl_json.proofs.AnswerSizes.{clubs-plain, digits-20, kind-text, match-plain, matches-plain, refusal-text, words-plain}
+use Rattle.ucl_json.proofs.PlainValues.{IsShortPlain, IsText, line-short, parsed-line, quoted-length}
+use Rattle.ucl_json.specs.Values.{accepted_value}
 
 -- the board states that the lines of a text carry, one for each line, None for a line that carries none
 abbrev pub carried_in : List ℕ → List (Option BoardState)
@@ -26,25 +26,38 @@ carried_in text = map parse_board_line (ended_lines 4097 [] text)
 abbrev pub IsAtMost : Option BoardState → Option BoardState → Type 0
 IsAtMost most o = (o ≡ None) ⊎ (o ≡ most)
 
--- a text consists of whole lines, each of which carries nothing, or just `most`
+-- a line has at most the 4,096 bytes that are read of one
+abbrev pub IsShort : List ℕ → Type 0
+IsShort line = length line ≤ 4096
+
+-- a text consists of whole lines of at most 4,096 bytes, each of which carries nothing, or just `most`
 pub record CarriesAtMost (most : Option BoardState) (text : List ℕ) : Type 0 where
   pub begun : begun_line 4097 [] text ≡ []
+  pub short : All IsShort (ended_lines 4097 [] text)
   pub each : All (IsAtMost most) (carried_in text)
 
--- a text of whole lines, and another one behind it, carry what the first carries, and then what the second carries
+-- a text of whole lines, and another one behind it, have the lines of the first, and then those of the second
+pub lines-then : (a b : List ℕ) → begun_line 4097 [] a ≡ [] → ended_lines 4097 [] (a ++ b) ≡ ended_lines 4097 [] a ++ ended_lines 4097 [] b
+lines-then a b h = ended_append 4097 [] a b ∙ ap (λ (l : List ℕ). ended_lines 4097 [] a ++ ended_lines 4097 l b) h
+
+-- they carry what the first carries, and then what the second carries
 pub carried-then : (a b : List ℕ) → begun_line 4097 [] a ≡ [] → carried_in (a ++ b) ≡ carried_in a ++ carried_in b
-carried-then a b h =
-    ap (map parse_board_line) (ended_append 4097 [] a b ∙ ap (λ (l : List ℕ). ended_lines 4097 [] a ++ ended_lines 4097 l b) h)
-    ∙ map-append parse_board_line (ended_lines 4097 [] a) (ended_lines 4097 [] b)
+carried-then a b h = ap (map parse_board_line) (lines-then a b h) ∙ map-append parse_board_line (ended_lines 4097 [] a) (ended_lines 4097 [] b)
 
 -- if each of two texts is of whole lines, so are the two, one after the other
 pub begun-then : (a b : List ℕ) → begun_line 4097 [] a ≡ [] → begun_line 4097 [] b ≡ [] → begun_line 4097 [] (a ++ b) ≡ []
 begun-then a b h k = begun_append 4097 [] a b ∙ ap (λ (l : List ℕ). begun_line 4097 l b) h ∙ k
 
+-- if the lines of two texts are short, so are those of the two, one after the other
+pub short-then : (a b : List ℕ) → begun_line 4097 [] a ≡ [] → All IsShort (ended_lines 4097 [] a) → All IsShort (ended_lines 4097 [] b)
+    → All IsShort (ended_lines 4097 [] (a ++ b))
+short-then a b h p q = rw (lines-then a b h) (All-append IsShort (ended_lines 4097 [] a) (ended_lines 4097 [] b) p q)
+
 -- if each line of two texts carries nothing or this board state, so does each line of the two, one after the other
 pub most-then : (most : Option BoardState) (a b : List ℕ) → CarriesAtMost most a → CarriesAtMost most b → CarriesAtMost most (a ++ b)
 most-then most a b p q = record {
   begun = begun-then a b p.begun q.begun;
+  short = short-then a b p.begun p.short q.short;
   each = rw (carried-then a b p.begun) (All-append (IsAtMost most) (carried_in a) (carried_in b) p.each q.each);
 }
 
@@ -52,16 +65,9 @@ most-then most a b p q = record {
 pub carried-none : carried_in [] ≡ []
 carried-none = ap (map parse_board_line) (ended_none 4097 [])
 
--- an empty text has no line that carries a board state
+-- an empty text has no line that is long or carries a board state
 pub most-none : (most : Option BoardState) → CarriesAtMost most []
-most-none most = record { begun = begun_none 4097 []; each = rw carried-none (All-nil (IsAtMost most)) }
-
--- the first 4,097 bytes of a line are read as the same board state as the whole line, or both as none
-short-told : (body : List ℕ) → parse_board_line (take 4097 body) ≡ parse_board_line body
-short-told body = elim (cases_lt 4097 (length body)) [
-  | inl long ↦ sym (too-long (take 4097 body) (let l = length-take-le 4097 body (omega arith) in omega arith)) ∙ too-long body (omega arith)
-  | inr short ↦ ap parse_board_line (take_all 4097 body short)
-]
+most-none most = record { begun = begun_none 4097 []; short = rw (ended_none 4097 []) (All-nil IsShort); each = rw carried-none (All-nil (IsAtMost most)) }
 
 -- bytes that all differ from 10 have no line feed
 no-feed : (bytes : List ℕ) → All (λ b. b ≢ 10) bytes → HasNoFeed bytes
@@ -69,32 +75,52 @@ no-feed [] h = tt
 no-feed (b ∷ bytes) h = (All-head (λ x. x ≢ 10) b bytes h, no-feed bytes (All-tail (λ x. x ≢ 10) b bytes h))
 
 -- the compact JSON text of a value has no line feed in it
-pub text-clean : (v : Data) → HasNoFeed (compact_text v)
+text-clean : (v : Data) → HasNoFeed (compact_text v)
 text-clean v =
     let whole = one_line v in
     subst HasNoFeed (sym (append_cancel_right (compact_text v) whole.body (10 ∷ []) whole.ends)) (no-feed whole.body whole.unbroken)
 
--- a text is one line, which carries the board state `o`, or nothing if `o` is None
-pub record IsLineThat (o : Option BoardState) (text : List ℕ) : Type 0 where
-  pub begun : begun_line 4097 [] text ≡ []
-  pub carried : carried_in text ≡ o ∷ []
+-- the JSON line of a plain, short value is one line, its text
+one-line : (v : Data) → IsShortPlain v → ended_lines 4097 [] (json_line v) ≡ compact_text v ∷ []
+one-line v short =
+    let few = line-short v short in
+    ended_line 4097 [] (compact_text v) (text-clean v) (omega arith) ∙ ap (λ (l : List ℕ). l ∷ []) (take_all 4097 (compact_text v) (omega arith))
 
--- the JSON line of a value carries what the value's text is read as: a board state, or nothing
-pub value-line : (v : Data) (o : Option BoardState) → parse_board_line (compact_text v) ≡ o → IsLineThat o (json_line v)
-value-line v o h = record {
+-- the JSON line of a plain, short value carries what the value is read as: a board state, or nothing
+pub carried-line : (v : Data) (o : Option BoardState) → IsShortPlain v → parse_board_state v ≡ o → carried_in (json_line v) ≡ o ∷ []
+carried-line v o short is = ap (map parse_board_line) (one-line v short) ∙ ap (λ (p : Option BoardState). p ∷ []) (parsed-line v short ∙ is)
+
+-- the JSON line of a plain, short value carries at most what the value is read as: a board state, or nothing
+pub value-line : (v : Data) (most o : Option BoardState) → IsShortPlain v → parse_board_state v ≡ o → IsAtMost most o → CarriesAtMost most (json_line v)
+value-line v most o short is at = record {
   begun = begun_ended 4097 [] (compact_text v);
-  carried = ap (map parse_board_line) (ended_line 4097 [] (compact_text v) (text-clean v) (omega arith)) ∙ ap (λ (p : Option BoardState). p ∷ []) (short-told (compact_text v) ∙ h);
+  short = rw (one-line v short) (All-cons IsShort (compact_text v) [] (line-short v short) (All-nil IsShort));
+  each = rw (carried-line v o short is) (All-cons (IsAtMost most) o [] at (All-nil (IsAtMost most)));
 }
-
--- if a text is one line, which carries `o`, and `o` is nothing or just `most`, each line of the text carries nothing or just `most`
-pub most-as : (most o : Option BoardState) (text : List ℕ) → IsLineThat o text → IsAtMost most o → CarriesAtMost most text
-most-as most o text l h = record { begun = l.begun; each = rw l.carried (All-cons (IsAtMost most) o [] h (All-nil (IsAtMost most))) }
 
 -- the JSON line of a plain, short value that is read as no board state carries none
 pub silent-line : (v : Data) (most : Option BoardState) → IsShortPlain v → parse_board_state v ≡ None → CarriesAtMost most (json_line v)
-silent-line v most short none = most-as most None (json_line v) (value-line v None (parsed-line v short ∙ none)) (inl refl)
+silent-line v most short none = value-line v most None short none (inl refl)
 
--- the answer in JSON to an event that is refused carries no board state, if all its numbers fit 64 bits
+-- the numbers of an event are in range: its match is one of twelve, the others have 64 bits
+pub record HasNumbers (event : NightEvent) : Type 0 where
+  pub reporter : event.reporter < 2 ^ 64
+  pub game : event.call.game ≤ 12
+  pub expected : event.call.expected < 2 ^ 64
+
+-- the answer in JSON to an accepted event carries no board state, if all its numbers are in range
+pub accepted-line : (o : Option BoardState) (row : ℕ) (event : NightEvent) (number edition version : ℕ) → row < 2 ^ 64 → HasNumbers event → number < 2 ^ 64
+    → edition < 2 ^ 64 → version < 2 ^ 64 → CarriesAtMost o (json_line (accepted_value row event number edition version))
+unfolding parse_board_state serde_json_on_literals
+accepted-line o row event number edition version r fits n e v =
+    let kind = kind-text event.call.kind in
+    let game : event.call.game < 2 ^ 64 = let few = fits.game in omega arith in
+    silent-line (accepted_value row event number edition version) o (record {
+      plain = ((refl, refl), (e, (kind.0, (fits.expected, (game, (n, (refl, (fits.reporter, (r, (v, tt))))))))));
+      size = omega (arith, digits-20, kind.1, fits.expected, game, fits.reporter);
+    }) refl
+
+-- the answer in JSON to an event that is refused carries no board state, if all its numbers are in range
 refused-by-line : (o : Option BoardState) (row : ℕ) (event : NightEvent) (refusal : Refusal) (found : Option ℕ) (m : MatchRecord)
     → row < 2 ^ 64 → HasNumbers event → IfSome found (λ n. n < 2 ^ 64) → IsValid m
     → CarriesAtMost o (json_line (refused_by row event (refusal_code refusal) (refusal_name refusal) found m))
@@ -102,17 +128,19 @@ unfolding parse_board_state serde_json_on_literals
 refused-by-line o row event refusal None m r fits f v =
     let kind = kind-text event.call.kind in
     let name = refusal-text refusal in
+    let game : event.call.game < 2 ^ 64 = let few = fits.game in omega arith in
     silent-line (refused_by row event (refusal_code refusal) (refusal_name refusal) None m) o (record {
-      plain = ((refl, refl), (name.2, (kind.0, (fits.expected, (fits.game, (name.0, (refl, (fits.reporter, (r, tt)))))))));
-      size = omega (arith, digits-20, kind.1, name.1, name.2, fits.expected, fits.game, fits.reporter);
+      plain = ((refl, refl), (name.2, (kind.0, (fits.expected, (game, (name.0, (refl, (fits.reporter, (r, tt)))))))));
+      size = omega (arith, digits-20, kind.1, name.1, name.2, fits.expected, game, fits.reporter);
     }) refl
 refused-by-line o row event refusal (Some n) m r fits f v =
     let kind = kind-text event.call.kind in
     let name = refusal-text refusal in
+    let game : event.call.game < 2 ^ 64 = let few = fits.game in omega arith in
     let stands = match-plain 124 event.call.game m fits.game v in
     silent-line (refused_by row event (refusal_code refusal) (refusal_name refusal) (Some n) m) o (record {
-      plain = ((refl, refl), (name.2, (kind.0, (fits.expected, (fits.game, (name.0, (f, (refl, (fits.reporter, (r, (stands.0, tt)))))))))));
-      size = omega (arith, digits-20, kind.1, name.1, name.2, fits.expected, fits.game, fits.reporter, stands.1);
+      plain = ((refl, refl), (name.2, (kind.0, (fits.expected, (game, (name.0, (f, (refl, (fits.reporter, (r, (stands.0, tt)))))))))));
+      size = omega (arith, digits-20, kind.1, name.1, name.2, fits.expected, game, fits.reporter, stands.1);
     }) refl
 
 -- what an answer shows of a row is printable ASCII, and has at most 130 bytes when quoted
@@ -161,9 +189,12 @@ words-line o row board r are =
 pub matches-line : (o : Option BoardState) (row : ℕ) (board : List ℕ) (clubs : List NamedClub) → row < 2 ^ 64 → IsRoster clubs → AreWords board →
     CarriesAtMost o (json_line (matches_value row board clubs))
 unfolding matches_value parse_board_state serde_json_on_literals
-matches-line o row board clubs r is w = silent-line (matches_value row board clubs) o (matches-short row board clubs r is w) refl
+matches-line o row board clubs r is w =
+    let c = clubs-plain clubs is in
+    let games = matches-plain board w in
+    silent-line (matches_value row board clubs) o (record { plain = ((refl, refl), (c.0, (games.0, (refl, (r, tt))))); size = omega (arith, digits-20 row r, c.1, games.1) }) refl
 
--- the JSON answer to a refused event carries no board state, if all its numbers fit 64 bits and its match record is valid
+-- the JSON answer to a refused event carries no board state, if all its numbers are in range and its match record is valid
 pub refused-line : (o : Option BoardState) (row : ℕ) (event : NightEvent) (refusal : Refusal) (m : MatchRecord)
     → row < 2 ^ 64 → HasNumbers event → IfSome (found_of refusal) (λ n. n < 2 ^ 64) → IsValid m → CarriesAtMost o (json_line (refused_value row event refusal m))
 refused-line o row event refusal m r fits f v = refused-by-line o row event refusal (found_of refusal) m r fits f v

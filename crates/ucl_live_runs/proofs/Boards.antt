@@ -1,7 +1,7 @@
 -- The events that stand on the board of a session, and what it answers to its lines.
-use Rattle.ucl_live_runs.proofs.Common.{All, All-append, All-cons, All-get_or, All-nil, All-set, AreWords, As, Attempt, AwaitingClubs, Bad}
+use Rattle.ucl_live_runs.proofs.Common.{All, All-append, All-cons, All-get_or, All-nil, All-set, AreWords, As, Attempt, AwaitingClubs, AwaitingHeader, Bad}
 use Rattle.ucl_live_runs.proofs.Common.{BoardHeader, BoardsTakeEvents, Club, Entry, Err, Event, EventCall, Format, FourFields, IfSome}
-use Rattle.ucl_live_runs.proofs.Common.{IsAttempt, IsClub, IsLegal, IsRoster, IsValid, IsWord, Json, Kind, List, LiveArgs, MatchRecord}
+use Rattle.ucl_live_runs.proofs.Common.{IsAttempt, IsClub, IsLegal, IsLegalAt, IsRoster, IsValid, IsWord, Json, Kind, List, LiveArgs, MatchRecord}
 use Rattle.ucl_live_runs.proofs.Common.{Matches, MayFollow, Mend, Mends, NamedClub, NightEvent, None, NoneMends, Nothing, Ok, Open, Option}
 use Rattle.ucl_live_runs.proofs.Common.{OtherGroup, Reached, Refusal, RefusedSessionsAreSilent, RepliesAreThoseOfFeed, Request, Result, Row}
 use Rattle.ucl_live_runs.proofs.Common.{Said, Screen, Session, SessionsAreSequential, Some, StandingEvent, Without, Words, [], after}
@@ -13,7 +13,7 @@ use Rattle.ucl_live_runs.proofs.Common.{edition_after, edition_by, edition_reply
 use Rattle.ucl_live_runs.proofs.Common.{events_in, false, fold, fold-append, game_at, get_or, has_row, header_said, history_in}
 use Rattle.ucl_live_runs.proofs.Common.{if◌then◌else◌, in_range, inl, inr, is_asked, is_club, is_group_row, is_mend, is_ok, kind_named}
 use Rattle.ucl_live_runs.proofs.Common.{leb-true, length, length-map, length-set, line_by_history, may_none, mend_by, mend_or_bad, moved}
-use Rattle.ucl_live_runs.proofs.Common.{nat_le, nat_tests, next, open_at, put_at, put_in, record_at, record_back, refl, refusal_of}
+use Rattle.ucl_live_runs.proofs.Common.{nat_le, nat_tests, next, open_at, record_at, record_back, refl, refusal_of}
 use Rattle.ucl_live_runs.proofs.Common.{reply_answer, reply_by_history, request_of, request_stage, said_on, same_Some, screen_after}
 use Rattle.ucl_live_runs.proofs.Common.{sequential_reply, set, shown_by, shown_text, slot_in, stage, subst, sum_by-set, sym, version_of}
 use Rattle.ucl_live_runs.proofs.Common.{with_roster, word_of, word_valid, ℕ, ⊤, ◌&&◌, ◌++◌, ◌+◌, ◌-◌, ◌<◌, ◌==◌, ◌>>=◌, ◌∙◌, ◌∷◌, ◌≡◌, ◌≤◌}
@@ -26,27 +26,12 @@ use Rattle.ucl_screen.specs.Numbers.{number}
 use Rattle.ucl_screen.specs.Script.{club_of}
 use Rattle.ucl_word.proofs.AcceptedEvents.{accepts, after_number, after_valid}
 use Rattle.ucl_live_runs.specs.LiveTheorems.{entered_by}
-use Rattle.ucl_live_runs.specs.Requests.{named_mend, names_club, named_row}
+use Rattle.ucl_live_runs.specs.NewClubs.{ClubInSlot, club_for}
+use Rattle.ucl_live_runs.specs.Requests.{if_club, named_mend, named_row, new_club}
 unfoldable use Rattle.ucl_mends.specs.MendTheorems.{MendsAreLegal}
 use Rattle.ucl_live_runs.proofs.Entered.{entered-history}
 use Rattle.ucl_live_runs.proofs.Lines.{is_open, on-board, silent}
 use Rattle.ucl_mends.proofs.Mends.{mends_legal}
-
--- a roster with a club put in a slot, if a roster takes it, is a roster
-good-put : (slot : ℕ) (clubs : List NamedClub) (o : Option NamedClub) → IsRoster clubs → IsRoster (put_in slot clubs o)
-good-put slot clubs None roster = roster
-good-put slot clubs (Some club) roster = cond_both (is_club club) (set clubs (slot - 1) club) clubs IsRoster
-    (λ y. record { four = length-set clubs (slot - 1) club ∙ roster.four; each = All-set IsClub clubs (slot - 1) club y roster.each }) (λ _. roster)
-
--- a roster stays a roster when the club of a row is put in the slot that the row names, if it names one
-good-at : (clubs : List NamedClub) (f : FourFields) (o : Option ℕ) → IsRoster clubs → IsRoster (put_at clubs f o)
-good-at clubs f None roster = roster
-good-at clubs f (Some slot) roster = good-put slot clubs (club_of slot f) roster
-
--- the clubs after each mend are a roster
-pub good-clubs : (clubs : List NamedClub) (r : Said) (mend : Mend) → IsRoster clubs → IsRoster (clubs_after clubs r mend)
-good-clubs clubs (Row f) Club roster = good-at clubs f (slot_in f.second) roster
-good-clubs _ _ _ roster = roster
 
 -- four times the same club are a roster only if it is one that a roster takes
 four-good : (club : NamedClub) → bad_slot (club ∷ club ∷ club ∷ club ∷ []) ≡ None → is_club club ≡ true
@@ -146,6 +131,7 @@ abbrev pub IsPossible : Request → Type 0
 IsPossible (Event e) = IsAttempt (attempt_of e) × (e.call.expected ≤ 65535)
 IsPossible (Mends (As edition)) = edition ≤ 65535
 IsPossible (Mends (Without row)) = row ≤ 4294967295
+IsPossible (Mends (Club new)) = IsClub new.club
 IsPossible _ = ⊤
 
 -- what holds of each request that a row can ask for
@@ -189,12 +175,20 @@ named f =
     (λ _. named-row (named_row f.second) (small-in 1 4294967295 (number 10 f.second)))
     (λ _. cond_both (length f.second == 0) (option_map As (edition_by f.third)) None IsNamed (λ _. named-edition (edition_by f.third) (small-in 0 65535 (number 5 f.third))) (λ _. tt))
 
--- the mend that a row of four fields makes, if any, has its numbers in range
+-- a club that a row names for a slot, if any, is one that a roster takes
+named-club : (slot : Option ℕ) (f : FourFields) → IsNamed (option_map Club (slot >>= λ slot. club_of slot f >>= λ club. if_club slot club))
+named-club None f = tt
+named-club (Some slot) f = by (club_of slot f)
+  where
+    by : (o : Option NamedClub) → IsNamed (option_map Club (o >>= λ club. if_club slot club))
+    by None = tt
+    by (Some club) = cond_both (is_club club) (Some (club_for slot club)) None (λ (new : Option ClubInSlot). IsNamed (option_map Club new)) (λ y. y) (λ _. tt)
+
+-- the mend that a row of four fields makes, if any, has its numbers in range, and a club that a roster takes
 named-by : (f : FourFields) → IsNamed (mend_by f)
 named-by f =
-    let club : Option Mend = if names_club f then Some Club else None in
     let mend = if bytes_eq f.first (codes "mend") && (length f.fourth == 0) then named_mend f else None in
-    cond_both (bytes_eq f.first (codes "club")) club mend IsNamed (λ _. cond_both (names_club f) (Some Club) None IsNamed (λ _. tt) (λ _. tt))
+    cond_both (bytes_eq f.first (codes "club")) (option_map Club (new_club f)) mend IsNamed (λ _. named-club (slot_in f.second) f)
     (λ _. cond_both (bytes_eq f.first (codes "mend") && (length f.fourth == 0)) (named_mend f) None IsNamed (λ _. named f) (λ _. tt))
 
 -- the request of a row that names this mend, or else is bad, has its numbers in range, if the mend has
@@ -227,15 +221,15 @@ all-attempts row [] = All-nil IsAttempt
 all-attempts row (line ∷ lines) = All-append IsAttempt (attempts_of (request_of (said_on row line))) (attempts_in (row + 1) lines) (of-request (said_on row line)) (all-attempts (row + 1) lines)
 
 -- a request that is no mend leaves the board open, with the events that stand after it
-no-mend : (header : BoardHeader) (row : ℕ) (clubs : List NamedClub) (events : List StandingEvent) (r : Said) (q : Request) → is_mend q ≡ false
-    → request_stage header row clubs events r q ≡ stage header (open_at clubs (entered_by row events q))
-no-mend header row clubs events r (Mends mend) h = cc
-no-mend _ _ _ _ _ _ h = refl
+no-mend : (header : BoardHeader) (row : ℕ) (clubs : List NamedClub) (events : List StandingEvent) (q : Request) → is_mend q ≡ false
+    → request_stage header row clubs events q ≡ stage header (open_at clubs (entered_by row events q))
+no-mend header row clubs events (Mends mend) h = cc
+no-mend _ _ _ _ _ h = refl
 
 -- a line that mends nothing leaves an open board open, with the same header and clubs, and the events that stand after its request
 pub no-mend-on : (e : Session) (r : Said) (clubs : List NamedClub) (events : List StandingEvent) → e.phase ≡ open_at clubs events → is_mend (request_of r) ≡ false
     → next e r ≡ moved e (stage e.header (open_at clubs (entered_by e.row events (request_of r))))
-no-mend-on e r clubs events h none = on-board e r clubs events h ∙ ap (moved e) (no-mend e.header e.row clubs events r (request_of r) none)
+no-mend-on e r clubs events h none = on-board e r clubs events h ∙ ap (moved e) (no-mend e.header e.row clubs events (request_of r) none)
 
 -- the history of the events that stand after a request is that of before after the attempt in it, if any
 pub entered-by-history : (row : ℕ) (events : List StandingEvent) (q : Request) → history_in (entered_by row events q) ≡ fold after_attempt (history_in events) (attempts_of q)
@@ -264,41 +258,41 @@ boards e (line ∷ lines) clubs events h none =
 -- the reply to an event after a history, as text, is the line that `ucl_night feed` writes for it
 pub replies : RepliesAreThoseOfFeed
 unfolding reply_line RepliesAreThoseOfFeed
-replies header clubs board history row event = refl
+replies edition board history row event = refl
 
 -- the text of the reply to an event, made from the reply and the board after it, is the one that is worked out from the history alone
-reply-answer : (format : Format) (header : BoardHeader) (row : ℕ) (clubs : List NamedClub) (history : List Entry) (event : NightEvent)
-    → reply_answer format header row clubs event (length history) (sequential_reply history event.call) (board_of (after_attempt history (attempt_of event)))
-    ≡ reply_by_history format header row clubs history event
+reply-answer : (format : Format) (edition row : ℕ) (history : List Entry) (event : NightEvent)
+    → reply_answer format edition row event (length history) (sequential_reply history event.call) (board_of (after_attempt history (attempt_of event)))
+    ≡ reply_by_history format edition row history event
 unfolding reply_line
-reply-answer Text header row clubs history event = refl
-reply-answer Json header row clubs history event = refl
+reply-answer Text edition row history event = refl
+reply-answer Json edition row history event = refl
 
 -- the answer to an event is the one that the history of the events that stand gives
-event-answer : (options : LiveArgs) (header : BoardHeader) (row : ℕ) (clubs : List NamedClub) (events : List StandingEvent) (r : Said) (event : NightEvent) (shown : List ℕ)
-    → answer_of options header row clubs events r (Event event) shown ≡ answer_by_history options header row clubs (history_in events) (Event event) shown
-event-answer options header row clubs events r event shown =
+event-answer : (options : LiveArgs) (header : BoardHeader) (row : ℕ) (clubs : List NamedClub) (events : List StandingEvent) (event : NightEvent) (shown : List ℕ)
+    → answer_of options header row clubs events (Event event) shown ≡ answer_by_history options header row clubs (history_in events) (Event event) shown
+event-answer options header row clubs events event shown =
     let history = history_in events in
     let reply = sequential_reply history event.call in
     let after = ap board_of (entered-history row events event) in
     let long = sym (length-map events (λ (event : StandingEvent). event.entry)) in
-    let line = ap₂ (λ (n : ℕ) (board : List ℕ). reply_answer options.format header row clubs event n reply board) long after
-    ∙ reply-answer options.format header row clubs history event in
+    let line = ap₂ (λ (n : ℕ) (board : List ℕ). reply_answer options.format header.edition row event n reply board) long after
+    ∙ reply-answer options.format header.edition row history event in
     ap₂ (λ (a b : List ℕ). a ++ b) line (ap (screen_after options header row clubs reply) after)
 
 -- the answer to a request that mends nothing is the one that the history of the events that stand gives
-request-answer : (options : LiveArgs) (header : BoardHeader) (row : ℕ) (clubs : List NamedClub) (events : List StandingEvent) (r : Said) (q : Request) (shown : List ℕ) → is_mend q ≡ false
-    → answer_of options header row clubs events r q shown ≡ answer_by_history options header row clubs (history_in events) q shown
-request-answer options header row clubs events r (Event event) shown h = event-answer options header row clubs events r event shown
-request-answer options header row clubs events r (Mends mend) shown h = cc
-request-answer _ _ _ _ _ _ _ _ h = refl
+request-answer : (options : LiveArgs) (header : BoardHeader) (row : ℕ) (clubs : List NamedClub) (events : List StandingEvent) (q : Request) (shown : List ℕ) → is_mend q ≡ false
+    → answer_of options header row clubs events q shown ≡ answer_by_history options header row clubs (history_in events) q shown
+request-answer options header row clubs events (Event event) shown h = event-answer options header row clubs events event shown
+request-answer options header row clubs events (Mends mend) shown h = cc
+request-answer _ _ _ _ _ _ _ h = refl
 
 -- on an open board the answer to a line that mends nothing is the one that the history of the events that stand gives
 said-answer : (e : Session) (clubs : List NamedClub) (events : List StandingEvent) (r : Said) (shown : List ℕ) → e.phase ≡ open_at clubs events → is_mend (request_of r) ≡ false
     → answer_said e r shown ≡ line_by_history e.options e.header e.row clubs (history_in events) r shown
 said-answer e clubs events Nothing shown h none = refl
 said-answer e clubs events r shown h none =
-    ap (λ (s : Reached). answer_at e s r shown) h ∙ request-answer e.options e.header e.row clubs events r (request_of r) shown none
+    ap (λ (s : Reached). answer_at e s r shown) h ∙ request-answer e.options e.header e.row clubs events (request_of r) shown none
 
 -- the answers to lines that mend nothing are those which the history gives
 text-by-history : (e : Session) (lines : List (List ℕ)) (clubs : List NamedClub) (events : List StandingEvent) → e.phase ≡ open_at clubs events → NoneMends e.row lines
@@ -330,14 +324,25 @@ pub silence : RefusedSessionsAreSilent
 unfolding RefusedSessionsAreSilent
 silence e lines fault h = silent e lines (ap is_open h)
 
--- what a session has reached is good: if its board is open, its clubs are a roster, and its events a legal history
+-- an event that stands has a row of 32 bits
+abbrev pub IsSmall : StandingEvent → Type 0
+IsSmall event = event.row ≤ 4294967295
+
+-- what a session has reached is good: if its board is open, its clubs are a roster, and its events a legal history with rows of 32 bits
 abbrev pub IsGood : Reached → Type 0
-IsGood (Ok (Open table)) = IsRoster table.roster × IsLegal (history_in table.events)
+IsGood (Ok (Open table)) = IsRoster table.roster × IsLegal (history_in table.events) × All IsSmall table.events
 IsGood _ = ⊤
+
+-- what is good is legal
+pub legal-at : (reached : Reached) → IsGood reached → IsLegalAt reached
+legal-at (Ok (Open table)) g = (g.0, g.1)
+legal-at (Ok AwaitingHeader) g = tt
+legal-at (Ok (AwaitingClubs clubs)) g = tt
+legal-at (Err fault) g = tt
 
 -- four clubs open a board only if they are a roster, and then with no event, so its history is legal
 good-roster : (clubs : List NamedClub) (slot : Option ℕ) → length clubs ≡ 4 → bad_slot clubs ≡ slot → IsGood (with_roster clubs slot)
-good-roster clubs None four e = (good_four clubs four e, may_none MayFollow)
+good-roster clubs None four e = (good_four clubs four e, may_none MayFollow, All-nil IsSmall)
 good-roster clubs (Some slot) four e = tt
 
 -- if the board is open after a row in the place of a club, its clubs are a roster, and its history is legal
@@ -347,6 +352,11 @@ good-club row clubs (Some club) =
     let all = clubs ++ club ∷ [] in
     cond_both (length all == 4) (with_roster all (bad_slot all)) (Ok (AwaitingClubs all)) IsGood
     (λ e. good-roster all (bad_slot all) (eqb-true (length all) 4 e) refl) (λ _. tt)
+
+-- the clubs after each mend that a row can ask for are a roster
+pub good-clubs : (clubs : List NamedClub) (mend : Mend) → IsPossible (Mends mend) → IsRoster clubs → IsRoster (clubs_after clubs mend)
+good-clubs clubs (Club new) p roster = record { four = length-set clubs (new.slot - 1) new.club ∙ roster.four; each = All-set IsClub clubs (new.slot - 1) new.club p roster.each }
+good-clubs _ _ _ roster = roster
 
 -- the edition after one is later, and fits 16 bits
 after-edition : (edition later : ℕ) → edition ≤ 65535 → edition_after edition ≡ Ok later → (edition < later) × (later ≤ 65535)
@@ -361,7 +371,7 @@ after-edition edition later most h = elim (cases_Bool (edition == 65535)) [
 -- the edition after a mend is later, and fits 16 bits
 pub later-edition : (edition : ℕ) (events : List StandingEvent) (mend : Mend) (later : ℕ) → edition ≤ 65535 → IsPossible (Mends mend) → edition_reply edition events mend ≡ Ok later
     → (edition < later) × (later ≤ 65535)
-later-edition edition events Club later most p h = after-edition edition later most h
+later-edition edition events (Club new) later most p h = after-edition edition later most h
 later-edition edition events (As named) later most p h = elim (cases_Bool (nat_lt edition named)) [
   | inl y ↦ let k = rw y at h in let same : named ≡ later = cc k in let less : edition < named = grind (arith, nat_tests) in (omega (arith, same, less), omega (arith, same, p))
   | inr n ↦ cc (rw n at h)

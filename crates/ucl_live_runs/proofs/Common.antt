@@ -36,28 +36,29 @@ pub use Rattle.ucl_json.proofs.Members.{too-long}
 pub use Rattle.ucl_json.proofs.OneLine.{line_of_value, lines_then, no_lines, one_line}
 unfoldable pub use Rattle.ucl_json.specs.BoardLines.{parse_board_line}
 pub use Rattle.ucl_json.specs.Lines.{AreLinesOfValues, json_line}
-pub use Rattle.ucl_json.specs.Mended.{left_out_value, mend_refused_value, mended_with}
-unfoldable pub use Rattle.ucl_json.specs.Mended.{mended_value}
+pub use Rattle.ucl_json.specs.Mended.{left_out_value, mend_refused_value}
+pub use Rattle.ucl_json.specs.Mended.{mended_value}
 pub use Rattle.ucl_json.specs.Values.{bad_row_value, refused_by, refused_value, reply_value, words_value}
 pub use Rattle.ucl_json.specs.declared.board_state.BoardState.{BoardState}
 pub use Rattle.ucl_json.specs.declared.header.BoardHeader.{BoardHeader}
-pub use Rattle.ucl_live_runs.specs.Follow.{HasNumbers, IsBoardState, IsCarriedIn, IsFollowed, IsLatest, IsNoFall, IsNoNewer, IsOlder}
+pub use Rattle.ucl_live_runs.specs.Follow.{IsBoardState, IsCarriedIn, IsFollowed, IsLatest, IsNoFall, IsNoNewer, IsOlder}
 pub use Rattle.ucl_live_runs.specs.Follow.{IsRecord, IsShownLast, LeaveTheSame, RiseAbove, WasAccepted, after_line, after_record}
 pub use Rattle.ucl_live_runs.specs.Follow.{after_shown, answer_lines, board_state_at, board_state_now, board_state_with, follow_text}
-pub use Rattle.ucl_live_runs.specs.Follow.{is_later, is_newer, is_shown, line_output, shown_if, shown_of, shown_output, unseen}
+pub use Rattle.ucl_live_runs.specs.Follow.{is_later, is_newer, is_shown, line_output, shown_if, shown_of, shown_output, table_text, unseen}
 pub use Rattle.ucl_live_runs.specs.LiveText.{Session, answer_at, answer_of, answer_said, event_answer, live_text, mend_answer, mended_stage}
 pub use Rattle.ucl_live_runs.specs.LiveText.{missing_after, missing_now, moved, next, next_at, request_stage, screen_after, screen_if}
 pub use Rattle.ucl_live_runs.specs.LiveText.{stage, start_of}
 pub use Rattle.ucl_live_runs.specs.LiveTheorems.{answer_by_history, attempts_of, ended, line_by_history, reply_by_history, uncut_lines}
 pub use Rattle.ucl_mends.specs.Mended.{call_again, entered, fate_by, fate_of, has_row, history_in, kept_after, kept_by, left_by}
 pub use Rattle.ucl_mends.specs.Mended.{left_out, left_out_after, mended, row_number, standing_of}
+pub use Rattle.ucl_live_runs.specs.Moments.{AreMoments, IsLegalAt, ShowsTheNewest, Showing, board_state_of_moment, mixture, moment, tables_text, text_if, two_kickoffs}
 pub use Rattle.ucl_live_runs.specs.Mends.{board_in, clubs_after, edition_after, edition_reply, events_after, left_out_by, left_out_lines}
-pub use Rattle.ucl_live_runs.specs.Mends.{mend_refused_answer, mended_answer, put_at, put_in, row_named}
+pub use Rattle.ucl_live_runs.specs.Mends.{mend_refused_answer, mended_answer, row_named}
 pub use Rattle.ucl_live_runs.specs.Phases.{Reached, after_beginning, after_club, after_header, club_said, fault_row, missing, open_at}
 pub use Rattle.ucl_live_runs.specs.Phases.{with_roster}
 pub use Rattle.ucl_live_runs.specs.Requests.{asked_header, edition_by, event_or_mend, header_by, header_said, is_asked, is_group_row}
 pub use Rattle.ucl_live_runs.specs.Requests.{is_mend, is_same_order, mend_by, mend_or_bad, request_of, shown_by, slot_in}
-pub use Rattle.ucl_live_runs.specs.SessionRuns.{Closes, HasNoAnswer, HasNoEnd, IsOutInPart, IsRejected, after_bytes, answers_to, end_of}
+pub use Rattle.ucl_live_runs.specs.SessionRuns.{Closes, HasNoAnswer, HasNoEnd, IsRejected, NeedsMemory, RanOutOfMemory, after_bytes, answers_to, end_of}
 pub use Rattle.ucl_live_runs.specs.SessionRuns.{missing_at, session_due, session_of}
 pub use Rattle.ucl_mends.specs.Standing.{IsMendedSoFar, MendsOneMore}
 pub use Rattle.ucl_live_runs.specs.declared.follower.FollowState.{FollowState}
@@ -103,11 +104,12 @@ pub use Rattle.ucl_word.specs.declared.refusal.Refusal.{Refusal}
 unfoldable pub use Rattle.serde_json.proofs.OnLiterals.{serde_json_on_literals}
 unfoldable pub use Rattle.ucl_io.specs.Lines.{begun_line, ended_lines}
 unfoldable pub use Rattle.ucl_json.specs.BoardLines.{parse_board_state, parse_each}
-unfoldable pub use Rattle.ucl_json.specs.Values.{accepted_value, edition_screen_value, matches_value, place_value, screen_value}
-unfoldable pub use Rattle.ucl_live_runs.specs.Follow.{AnswersTellTheirBoardState, FollowersEndWithTheBoard, HasRepeats, LatestIsShownLast}
-unfoldable pub use Rattle.ucl_live_runs.specs.Follow.{LinesTellTheirBoardState, MatchesFitTheirLine, OthersDoNotMatter, RepeatedRowsChangeNothing}
-unfoldable pub use Rattle.ucl_live_runs.specs.Follow.{AnswersNeverFall, NeverFall, SameRowsSameTable, ShownVersionsRise, board_states_shown, follow_outputs}
+unfoldable pub use Rattle.ucl_json.specs.Values.{edition_screen_value, matches_value, place_value, screen_value}
+unfoldable pub use Rattle.ucl_live_runs.specs.Follow.{AnswersFitTheirLines, FollowersEndWithTheBoard, HasRepeats, LatestIsShownLast}
+unfoldable pub use Rattle.ucl_live_runs.specs.Follow.{LinesTellTheirBoardState, OthersDoNotMatter, RepeatedRowsChangeNothing}
+unfoldable pub use Rattle.ucl_live_runs.specs.Follow.{AnswersNeverFall, NeverFall, ShownVersionsRise, board_states_shown, follow_outputs}
 unfoldable pub use Rattle.ucl_live_runs.specs.Follow.{followed}
+unfoldable pub use Rattle.ucl_live_runs.specs.Moments.{EveryTableIsOneMoment, MixturesAreRefused, OlderMomentsAreRefused, RunsShowMoments, SessionsShowMoments, answers_with_tables}
 unfoldable pub use Rattle.ucl_live_runs.specs.LiveText.{after_lines, answers}
 unfoldable pub use Rattle.ucl_live_runs.specs.LiveTheorems.{BeginningsAreAnswered, BoardsTakeEvents, JsonAnswersAreLines, LinesAreReadWhole, MendsAreDone}
 unfoldable pub use Rattle.ucl_live_runs.specs.LiveTheorems.{NoneMends, RefusedSessionsAreSilent, RepliesAreThoseOfFeed, SessionsAreSequential}

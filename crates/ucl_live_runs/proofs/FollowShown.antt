@@ -1,26 +1,24 @@
 -- What is shown of lines.
-use Rattle.ucl_live_runs.proofs.Common.{All, All-cons, All-contains, All-head, All-map, All-nil, All-tail, All-weaker, AwayInTie, BoardHeader, BoardState}
-use Rattle.ucl_live_runs.proofs.Common.{Contains, Contains-append_cases, Contains-append_right, FollowArgs, FollowState, IsCarriedIn, IsFollowed, IsNoNewer}
-use Rattle.ucl_live_runs.proofs.Common.{IsOlder, IsShownLast, LatestIsShownLast, List, None, Option, OthersDoNotMatter, Profile, RiseAbove, ShownVersionsRise}
-use Rattle.ucl_live_runs.proofs.Common.{Some, Uefa, [], after_shown, and_parts, ap, arith, board_states_shown, cond_some, eqb-true, false, flat_map}
-use Rattle.ucl_live_runs.proofs.Common.{follow_outputs, followed, inl, inr, is_asked, is_later, is_newer, is_same_order, is_shown, map, nat_tests}
-use Rattle.ucl_live_runs.proofs.Common.{option_to_list, parse_board_line, refl, same_Some, screen_text, shown_if, shown_of, shown_output, subst, sym, true}
-use Rattle.ucl_live_runs.proofs.Common.{unseen, ℕ, ⊤, ◌++◌, ◌==◌, ◌∙◌, ◌∷◌, ◌≡◌, ◌⊎◌}
+use Rattle.ucl_live_runs.proofs.Common.{All, All-cons, All-contains, All-contains_itself, All-head, All-map, All-nil, All-tail, All-weaker}
+use Rattle.ucl_live_runs.proofs.Common.{AwayInTie, BoardHeader, BoardState, Contains, Contains-append_cases, Contains-append_right}
+use Rattle.ucl_live_runs.proofs.Common.{FollowArgs, FollowState, IsCarriedIn, IsFollowed, IsNoNewer, IsOlder, IsShownLast}
+use Rattle.ucl_live_runs.proofs.Common.{LatestIsShownLast, List, None, Option, OthersDoNotMatter, Profile, RiseAbove, ShownVersionsRise}
+use Rattle.ucl_live_runs.proofs.Common.{Some, Uefa, [], after_shown, and_parts, ap, arith, board_states_shown, cases_Bool, cond_some}
+use Rattle.ucl_live_runs.proofs.Common.{eqb-true, false, flat_map, follow_outputs, followed, inl, inr, is_asked, is_later, is_newer}
+use Rattle.ucl_live_runs.proofs.Common.{is_same_order, is_shown, map, nat_tests, option_to_list, parse_board_line, refl, same_Some}
+use Rattle.ucl_live_runs.proofs.Common.{shown_if, shown_of, shown_output, subst, sym, table_text, true, unseen, ℕ, ⊤, ◌++◌, ◌==◌, ◌∙◌, ◌∷◌}
+use Rattle.ucl_live_runs.proofs.Common.{◌≡◌, ◌⊎◌}
 use Rattle.ucl_command.specs.declared.follow.FollowShape.TheVariants.{Text}
 
 -- lines, each as its bytes
 abbrev Lines : Type 0
 Lines = List (List ℕ)
 
--- the screen of a board state, as text
-abbrev screen_of : BoardState → List ℕ
-screen_of m = screen_text m.header.profile m.board m.roster m.header.group
-
 -- a follower shows this board state of a line, which carries it, and it is as asked for and newer than all before
-record Shows (f : FollowState) (line : List ℕ) (m : BoardState) : Type 0 where
-  carried : parse_board_line line ≡ Some m
-  asked : IsFollowed f m
-  newer : is_newer f.newest m ≡ true
+pub record Shows (f : FollowState) (line : List ℕ) (m : BoardState) : Type 0 where
+  pub carried : parse_board_line line ≡ Some m
+  pub asked : IsFollowed f m
+  pub newer : is_newer f.newest m ≡ true
 
 -- if what is shown of a line is a board state, the line carries it, and it is as asked for and newer than all before
 shows : (f : FollowState) (line : List ℕ) (o : Option BoardState) (m : BoardState) → parse_board_line line ≡ o → shown_if f o ≡ Some m → Shows f line m
@@ -31,7 +29,7 @@ shows f line (Some n) m is h =
     record { carried = is ∙ ap Some p.1; asked = q.0; newer = q.1 }
 
 -- a property `P` holds for what is shown of a line if it holds for nothing and for each board state that may be shown of the line
-by-shown : (P : Option BoardState → Type 0) (f : FollowState) (line : List ℕ) → (shown_of f line ≡ None → P None) → ((m : BoardState) → Shows f line m → P (Some m))
+pub by-shown : (P : Option BoardState → Type 0) (f : FollowState) (line : List ℕ) → (shown_of f line ≡ None → P None) → ((m : BoardState) → Shows f line m → P (Some m))
     → P (shown_of f line)
 by-shown P f line none some = by (shown_of f line) refl
   where
@@ -40,19 +38,19 @@ by-shown P f line none some = by (shown_of f line) refl
     by (Some m) is = some m (shows f line (parse_board_line line) m refl is)
 
 -- each board state that is shown is newer than those before
-rise : (f : FollowState) (lines : Lines) → RiseAbove f.newest (board_states_shown f lines)
+pub rise : (f : FollowState) (lines : Lines) → RiseAbove f.newest (board_states_shown f lines)
 unfolding board_states_shown
 rise f [] = tt
 rise f (line ∷ lines) = by-shown (λ o. RiseAbove f.newest (option_to_list o ++ board_states_shown (after_shown f o) lines)) f line
     (λ _. rise (after_shown f None) lines) (λ m s. (s.newer, rise (after_shown f (Some m)) lines))
 
 -- as text the screens of what is shown are written, one after the other
-text : (f : FollowState) (lines : Lines) → follow_outputs Text f lines ≡ flat_map screen_of (board_states_shown f lines)
+text : (f : FollowState) (lines : Lines) → follow_outputs Text f lines ≡ flat_map table_text (board_states_shown f lines)
 unfolding follow_outputs board_states_shown
 text f [] = refl
 text f (line ∷ lines) = by-shown (λ o. shown_output Text f o ++ follow_outputs Text (after_shown f o) lines
-    ≡ flat_map screen_of (option_to_list o ++ board_states_shown (after_shown f o) lines)) f line
-    (λ _. text (after_shown f None) lines) (λ m s. ap (λ (l : List ℕ). screen_of m ++ l) (text (after_shown f (Some m)) lines))
+    ≡ flat_map table_text (option_to_list o ++ board_states_shown (after_shown f o) lines)) f line
+    (λ _. text (after_shown f None) lines) (λ m s. ap (λ (l : List ℕ). table_text m ++ l) (text (after_shown f (Some m)) lines))
 
 -- what lines carry is carried with one line more too
 carried-later : (line : List ℕ) (lines : Lines) (m : BoardState) → IsCarriedIn lines m → IsCarriedIn (line ∷ lines) m
@@ -154,11 +152,11 @@ versions f lines = record {
 }
 
 -- no board state is later than itself
-not-itself : (m : BoardState) → is_later m m ≡ false
+pub not-itself : (m : BoardState) → is_later m m ≡ false
 not-itself m = grind (arith, nat_tests)
 
 -- if one board state is later than another, the other is not later than it
-one-way : (m other : BoardState) → is_later m other ≡ true → is_later other m ≡ false
+pub one-way : (m other : BoardState) → is_later m other ≡ true → is_later other m ≡ false
 one-way m other h = grind (arith, nat_tests)
 
 -- a board state that is as asked for
@@ -264,9 +262,16 @@ pub latest : LatestIsShownLast
 unfolding LatestIsShownLast
 latest args m lines h = last args m h.asked lines h.newest h.carried
 
--- the latest board state of `lines` is shown last of some of these lines, in any order, if one of them carries it
+-- the latest board state of `lines` is shown last of others that carry no other board states, if one of these carries it
 pub others : OthersDoNotMatter
 unfolding OthersDoNotMatter
-others args m lines those h these told =
-    let os = map parse_board_line lines in
-    last args m h.asked those (All-weaker (Contains os) (IsNoNewer args m) (λ o. All-contains (IsNoNewer args m) os o h.newest) (map parse_board_line those) (among lines those these)) told
+others args m lines those h none told =
+    let os = map parse_board_line those in
+    last args m h.asked those (All-weaker (Contains os) (IsNoNewer args m) each os (All-contains_itself os)) told
+  where
+    each : (o : Option BoardState) → Contains (map parse_board_line those) o → IsNoNewer args m o
+    each None t = tt
+    each (Some other) t = elim (cases_Bool (is_asked args.group args.profile other.header)) [
+      | inl asked ↦ All-contains (IsNoNewer args m) (map parse_board_line lines) (Some other) h.newest (none other t asked)
+      | inr out ↦ inl out
+    ]

@@ -9,5 +9,8 @@ pub mod AnswerLines
 pub mod MendLines
 pub mod Told
 pub mod RecordEnds
+pub mod Moments
+pub mod NoMoments
+pub mod OwnScreens
 pub mod Repeats
 pub mod Theorems

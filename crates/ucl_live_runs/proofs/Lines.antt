@@ -10,7 +10,7 @@ use Rattle.ucl_live_runs.proofs.Common.{ended_append, ended_lines, entered, even
 use Rattle.ucl_live_runs.proofs.Common.{history_in, inl, inr, json_line, last_lines, left_out_by, left_out_lines, left_out_value, length}
 use Rattle.ucl_live_runs.proofs.Common.{length-append, length-take, line_of_value, lines_of, lines_then, live_text, longer, lt-leb, map}
 use Rattle.ucl_live_runs.proofs.Common.{matches_value, mend_answer, mend_refused_value, mended_answer, mended_stage, mended_value}
-use Rattle.ucl_live_runs.proofs.Common.{mended_with, min, missing, missing_after, missing_at, missing_now, moved, nat_le, nat_tests, next}
+use Rattle.ucl_live_runs.proofs.Common.{min, missing, missing_after, missing_at, missing_now, moved, nat_le, nat_tests, next}
 use Rattle.ucl_live_runs.proofs.Common.{next_at, no_lines, open_at, printed, refl, reply_answer, reply_value, request_of, request_stage}
 use Rattle.ucl_live_runs.proofs.Common.{row_named, said_by_text, said_on, screen_after, screen_answer, screen_if, sequential_reply}
 use Rattle.ucl_live_runs.proofs.Common.{shown_text, stage, subst, sym, take, take-append-drop, take-append-le, take_all, true, uncut_after}
@@ -26,20 +26,20 @@ is_open (Ok (Open table)) = true
 is_open _ = false
 
 -- after a mend, accepted or refused, the board is open
-open-reply : (header : BoardHeader) (clubs : List NamedClub) (events : List StandingEvent) (r : Said) (mend : Mend) (reply : Result ℕ MendRefusal)
-    → is_open (mended_stage header clubs events r mend reply).phase ≡ true
-open-reply header clubs events r mend (Ok edition) = refl
-open-reply header clubs events r mend (Err refusal) = refl
+open-reply : (header : BoardHeader) (clubs : List NamedClub) (events : List StandingEvent) (mend : Mend) (reply : Result ℕ MendRefusal)
+    → is_open (mended_stage header clubs events mend reply).phase ≡ true
+open-reply header clubs events mend (Ok edition) = refl
+open-reply header clubs events mend (Err refusal) = refl
 
 -- after any request on an open board the board is open
-open-request : (header : BoardHeader) (row : ℕ) (clubs : List NamedClub) (events : List StandingEvent) (r : Said) (q : Request)
-    → is_open (request_stage header row clubs events r q).phase ≡ true
-open-request header row clubs events r (Mends mend) = open-reply header clubs events r mend (edition_reply header.edition events mend)
-open-request _ _ _ _ _ _ = refl
+open-request : (header : BoardHeader) (row : ℕ) (clubs : List NamedClub) (events : List StandingEvent) (q : Request)
+    → is_open (request_stage header row clubs events q).phase ≡ true
+open-request header row clubs events (Mends mend) = open-reply header clubs events mend (edition_reply header.edition events mend)
+open-request _ _ _ _ _ = refl
 
 -- if the board is open, it is open after any row
 open-at : (e : Session) (s : Reached) (r : Said) → is_open s ≡ true → is_open (next_at e s r).phase ≡ true
-open-at e (Ok (Open table)) r h = open-request e.header e.row table.roster table.events r (request_of r)
+open-at e (Ok (Open table)) r h = open-request e.header e.row table.roster table.events (request_of r)
 open-at e s r h = cc
 
 -- a session with an open board has an open board after any line
@@ -57,7 +57,7 @@ stays-open e (line ∷ lines) h = stays-open (next e (said_on e.row line)) lines
 module _ (P : Session → List ℕ → Type 0) where
   pub by-line : (e : Session) (r : Said) (shown : List ℕ) → ((after : Session) → P after [])
       → ((clubs : List NamedClub) (events : List StandingEvent) → e.phase ≡ open_at clubs events
-      → P (moved e (request_stage e.header e.row clubs events r (request_of r))) (answer_of e.options e.header e.row clubs events r (request_of r) shown))
+      → P (moved e (request_stage e.header e.row clubs events (request_of r))) (answer_of e.options e.header e.row clubs events (request_of r) shown))
       → P (next e r) (answer_said e r shown)
   by-line e Nothing shown silent answered = silent (next e Nothing)
   by-line e r shown silent answered = at e.phase refl
@@ -68,7 +68,7 @@ module _ (P : Session → List ℕ → Type 0) where
 
 -- the session after a line on an open board has the header and the phase that the request of the line leads to
 pub on-board : (e : Session) (r : Said) (clubs : List NamedClub) (events : List StandingEvent) → e.phase ≡ open_at clubs events
-    → next e r ≡ moved e (request_stage e.header e.row clubs events r (request_of r))
+    → next e r ≡ moved e (request_stage e.header e.row clubs events (request_of r))
 on-board e Nothing clubs events h = ap (λ (s : Reached). moved e (stage e.header s)) h
 on-board e r clubs events h = ap (λ (s : Reached). moved e (next_at e s r)) h
 
@@ -77,10 +77,10 @@ on-board e r clubs events h = ap (λ (s : Reached). moved e (next_at e s r)) h
 pub mends-done : MendsAreDone
 unfolding MendsAreDone
 mends-done e r clubs events mend h q =
-    let same = on-board e r clubs events h ∙ ap (λ (x : Request). moved e (request_stage e.header e.row clubs events r x)) q in
-    subst (λ (n : Session). IsMended e n clubs events r mend (edition_reply e.header.edition events mend)) (sym same) (by (edition_reply e.header.edition events mend))
+    let same = on-board e r clubs events h ∙ ap (λ (x : Request). moved e (request_stage e.header e.row clubs events x)) q in
+    subst (λ (n : Session). IsMended e n clubs events mend (edition_reply e.header.edition events mend)) (sym same) (by (edition_reply e.header.edition events mend))
   where
-    by : (reply : Result ℕ MendRefusal) → IsMended e (moved e (mended_stage e.header clubs events r mend reply)) clubs events r mend reply
+    by : (reply : Result ℕ MendRefusal) → IsMended e (moved e (mended_stage e.header clubs events mend reply)) clubs events mend reply
     by (Ok edition) = (refl, refl)
     by (Err refusal) = (refl, refl)
 
@@ -95,7 +95,7 @@ silent e [] h = refl
 silent e (line ∷ lines) h =
     let r = said_on e.row line in
     let a = by-line (λ after text. is_open after.phase ≡ false → text ≡ []) e r (shown_text line) (λ _ _. refl)
-    (λ clubs events _ k. absurd (both_ways _ k (open-request e.header e.row clubs events r (request_of r)))) (shut-lines (next e r) lines h) in
+    (λ clubs events _ k. absurd (both_ways _ k (open-request e.header e.row clubs events (request_of r)))) (shut-lines (next e r) lines h) in
     let b = silent (next e r) lines h in rw (a, b) refl
 
 -- a session that is refused stays refused, with the same fault
@@ -184,7 +184,7 @@ some-missing e f begun some is =
     ∙ told-alike (e.row + 1) (min (e.row + 1) (2 ^ 64 - 1)) f.phase (omega arith)
 
 -- if a session has no answer to a line, for some fault, it has none to it as the last line, for the same fault
-pub some-stops : (e : Session) (begun : List ℕ) (fault : LiveFault) → (begun ≡ [] → ⊥) → HasNoAnswer e (said_on e.row begun) fault → HasNoEnd e begun fault
+pub some-stops : (e : Session) (begun : List ℕ) (fault : LiveFault) → (begun ≡ [] → ⊥) → HasNoAnswer e begun fault → HasNoEnd e begun fault
 some-stops e begun fault some (inl none) = inl none
 some-stops e begun fault some (inr refused) = inr (ap missing_now (some-end e begun some) ∙ ap (missing (e.row + 1)) refused)
 
@@ -206,24 +206,24 @@ left-lines [] = no_lines
 left-lines (out ∷ left) =
     lines_then (json_line (left_out_value out.event.row out.event.entry out.refusal)) (left_out_lines left) (line_of_value (left_out_value out.event.row out.event.entry out.refusal)) (left-lines left)
 
-module _ (options : LiveArgs) (header : BoardHeader) (row : ℕ) (clubs : List NamedClub) (events : List StandingEvent) (said : Said) (json : options.format ≡ Json) where
-  mend-lines : (mend : Mend) (reply : Result ℕ MendRefusal) → AreLinesOfValues (mend_answer options header row clubs events said mend reply)
+module _ (options : LiveArgs) (header : BoardHeader) (row : ℕ) (clubs : List NamedClub) (events : List StandingEvent) (json : options.format ≡ Json) where
+  mend-lines : (mend : Mend) (reply : Result ℕ MendRefusal) → AreLinesOfValues (mend_answer options header row clubs events mend reply)
   mend-lines mend (Err refusal) = rw json (line_of_value (mend_refused_value row (mend_refusal_code refusal) (mend_refusal_name refusal)))
   mend-lines mend (Ok edition) =
       let later = record header { edition = edition } in
-      let all = clubs_after clubs said mend in
+      let all = clubs_after clubs mend in
       let stand = events_after events mend in
       let left = left_out_by events mend in
-      let value = mended_with (row_named mend) (mended_value row (length left) later (board_in stand) all) in
-      lines_then (mended_answer options.format row later all left (row_named mend) stand) (screen_if options later row all (board_in stand))
+      let value = mended_value row (row_named mend) (length left) edition (length stand) in
+      lines_then (mended_answer options.format row edition left (row_named mend) stand) (screen_if options later row all (board_in stand))
       (rw json (lines_then (left_out_lines left) (json_line value) (left-lines left) (line_of_value value))) (if-lines options later row all json (board_in stand))
 
-  request-lines : (request : Request) (shown : List ℕ) → AreLinesOfValues (answer_of options header row clubs events said request shown)
+  request-lines : (request : Request) (shown : List ℕ) → AreLinesOfValues (answer_of options header row clubs events request shown)
   request-lines (Event event) shown =
       let reply = sequential_reply (history_in events) event.call in
       let after = board_in (entered row events event) in
-      lines_then (reply_answer options.format header row clubs event (length events) reply after) (screen_after options header row clubs reply after)
-      (rw json (line_of_value (reply_value row event reply header after clubs))) (after-lines options header row clubs json reply after)
+      lines_then (reply_answer options.format header.edition row event (length events) reply after) (screen_after options header row clubs reply after)
+      (rw json (line_of_value (reply_value row event reply header.edition after))) (after-lines options header row clubs json reply after)
   request-lines (Bad field) shown = rw json (line_of_value (bad_row_value row (field_name field) shown))
   request-lines Screen shown = screen-lines options header row clubs json (board_in events)
   request-lines Words shown = rw json (line_of_value (words_value row (board_in events)))
@@ -238,7 +238,7 @@ json-lines e (line ∷ lines) h =
     let said = said_on e.row line in
     let shown = shown_text line in
     let one = by-line (λ _ text. AreLinesOfValues text) e said shown (λ _. no_lines)
-    (λ clubs events _. request-lines e.options e.header e.row clubs events said h (request_of said) shown) in
+    (λ clubs events _. request-lines e.options e.header e.row clubs events h (request_of said) shown) in
     lines_then (answer_said e said shown) (answers (next e said) lines) one (json-lines (next e said) lines h)
 
 -- if the first 258 bytes of a line are kept, then after one byte more those of the longer line are

@@ -1,22 +1,25 @@
--- The lines of JSON that answer a mend: what board state each carries.
-use Rattle.ucl_live_runs.proofs.Common.{BoardState, Entry, IfSome, IsBoardState, MendRefusal, Refusal, arith, escape_byte, json_line}
-use Rattle.ucl_live_runs.proofs.Common.{left_out_value, mend_refused_value, mended_value, mended_with, quoted, refl, ℕ, ◌<◌, ◌^◌, ◌≤◌}
-use Rattle.std.specs.Prelude.{Option, Some, length}
+-- The lines of JSON that answer a mend: none carries a board state.
+use Rattle.ucl_live_runs.proofs.Common.{BoardState, Entry, IfSome, LeftOut, List, MendRefusal, Refusal, [], ap, append-nil, ap₂, arith, escape_byte}
+use Rattle.ucl_live_runs.proofs.Common.{flat_map-append, get_or, json_line, left_out_lines, sym, take, take_more, ◌++◌, ◌+◌, ◌∙◌, ◌∷◌, ◌≡◌}
+use Rattle.ucl_live_runs.proofs.Common.{left_out_value, mend_refused_value, mended_value, quoted, refl, ℕ, ◌<◌, ◌^◌, ◌≤◌}
+use Rattle.std.specs.Prelude.{None, Option, Some, length}
 use Rattle.serde_json.proofs.OnLiterals.{serde_json_on_literals}
 use Rattle.ucl_json.specs.BoardLines.{parse_board_state}
 use Rattle.ucl_mends.specs.MendNames.{mend_refusal_code, mend_refusal_name}
 use Rattle.ucl_mends.specs.declared.mend_refusal.MendRefusal.TheVariants.{LastEdition, NoEvent}
 use Rattle.ucl_json.proofs.AnswerSizes.{digits-20, kind-text, refusal-text}
 use Rattle.ucl_json.proofs.PlainValues.{IsText}
-use Rattle.ucl_live_runs.proofs.AnswerLines.{CarriesAtMost, IsLineThat, silent-line, value-line}
-use Rattle.ucl_live_runs.proofs.AnswerValues.{carried, mended-has, mended-plain}
+use Rattle.ucl_live_runs.proofs.AnswerLines.{CarriesAtMost, silent-line}
 
--- the answer to a mend carries the board state after it
-pub mended-line : (without : Option ℕ) (row left_out : ℕ) (m : BoardState) → IsBoardState m → row < 2 ^ 64 → IfSome without (λ n. n < 2 ^ 64) → left_out < 2 ^ 64
-    → IsLineThat (Some m) (json_line (mended_with without (mended_value row left_out m.header m.board m.roster)))
-mended-line without row left_out m is r w l =
-    value-line (mended_with without (mended_value row left_out m.header m.board m.roster)) (Some m)
-    (carried _ m is (mended-has without row left_out m) (mended-plain without row left_out m is r w l))
+-- the answer to a mend carries no board state, if all its numbers fit 64 bits
+pub mended-line : (o : Option BoardState) (without : Option ℕ) (row left_out edition version : ℕ) → row < 2 ^ 64 → IfSome without (λ n. n < 2 ^ 64) → left_out < 2 ^ 64
+    → edition < 2 ^ 64 → version < 2 ^ 64 → CarriesAtMost o (json_line (mended_value row without left_out edition version))
+unfolding parse_board_state serde_json_on_literals
+mended-line o None row left_out edition version r w l e v =
+    silent-line (mended_value row None left_out edition version) o (record { plain = ((refl, refl), (e, (l, (refl, (r, (v, tt)))))); size = omega (arith, digits-20) }) refl
+mended-line o (Some n) row left_out edition version r w l e v =
+    silent-line (mended_value row (Some n) left_out edition version) o
+    (record { plain = ((refl, refl), (e, (l, (refl, (r, (v, (w, tt))))))); size = omega (arith, digits-20) }) refl
 
 -- the JSON line of an event that is left out carries no board state, if its numbers fit 64 bits
 pub left-out-line : (o : Option BoardState) (row : ℕ) (entry : Entry) (refusal : Refusal) → row < 2 ^ 64 → entry.game < 2 ^ 64 → entry.reporter < 2 ^ 64
@@ -46,3 +49,11 @@ mend-refused-line o row refusal r =
       plain = ((refl, refl), (name.2, (name.0, (refl, (r, tt)))));
       size = omega (arith, digits-20, name.1, name.2);
     }) refl
+
+-- the lines of one event more that is left out are those of before, and then its own
+pub left-more : (left : List LeftOut) (i : ℕ) (out : LeftOut) (text old line : List ℕ) → i < length left → out ≡ get_or left i out → text ≡ old ++ line
+    → old ≡ left_out_lines (take i left) → line ≡ json_line (left_out_value out.event.row out.event.entry out.refusal) → text ≡ left_out_lines (take (i + 1) left)
+left-more left i out text old line below is e so_far one =
+    let line_of = λ (out : LeftOut). json_line (left_out_value out.event.row out.event.entry out.refusal) in
+    e ∙ ap₂ (λ (a b : List ℕ). a ++ b) so_far (one ∙ sym (append-nil (line_of out))) ∙ sym (flat_map-append line_of (take i left) (out ∷ []))
+    ∙ ap left_out_lines (sym (take_more left i out below ∙ ap (λ (o : LeftOut). take i left ++ o ∷ []) (sym is)))

@@ -1,31 +1,37 @@
--- The last board state that the answers of a record tell is its board.
-use Rattle.ucl_live_runs.proofs.Common.{All, All-append, All-contains, All-contains_itself, All-head, All-tail, All-weaker}
-use Rattle.ucl_live_runs.proofs.Common.{AnswersNeverFall, BoardState, Contains, Contains-append_cases, Contains-append_left}
-use Rattle.ucl_live_runs.proofs.Common.{Contains-append_right, FollowArgs, FollowersEndWithTheBoard, IsCarriedIn, IsLatest, IsNoFall}
-use Rattle.ucl_live_runs.proofs.Common.{IsNoNewer, IsOlder, IsRecord, Json, List, LiveArgs, NamedClub, NeverFall, None, Ok, Open, Option}
-use Rattle.ucl_live_runs.proofs.Common.{OthersDoNotMatter, Reached, Said, SameRowsSameTable, Session, ShownVersionsRise, Some}
-use Rattle.ucl_live_runs.proofs.Common.{StandingEvent, [], after_lines, after_record, answer_lines, answer_said, answers, ap, append-nil}
-use Rattle.ucl_live_runs.proofs.Common.{append_assoc, arith, begun_line, begun_none, board_in, board_state_at, board_state_now}
-use Rattle.ucl_live_runs.proofs.Common.{board_state_with, ended_lines, few_lines, fits, flat_map, flat_map-append, inl, inr, is_later}
-use Rattle.ucl_live_runs.proofs.Common.{last_lines, length, length-append, lines_of, map, nat_tests, next, open_at, parse_board_line, refl}
-use Rattle.ucl_live_runs.proofs.Common.{said_on, same_Some, screen_text, shown_text, start_of, subst, sym, true, unseen, version_of, ℕ}
+-- The board states that the answers to a record carry: each is that of one moment of the record, and the last is its board.
+use Rattle.ucl_live_runs.proofs.Common.{All, All-append, All-contains, All-contains_itself, All-head, All-nil, All-tail}
+use Rattle.ucl_live_runs.proofs.Common.{All-weaker, AnswersFitTheirLines, AnswersNeverFall, BoardState, Contains, Contains-append_cases, Contains-append_left}
+use Rattle.ucl_live_runs.proofs.Common.{Contains-append_right, FollowArgs, FollowersEndWithTheBoard, IsCarriedIn}
+use Rattle.ucl_live_runs.proofs.Common.{IsLatest, IsNoFall, IsNoNewer, IsOlder, IsRecord, Json, List, LiveArgs, NamedClub, NeverFall, None}
+use Rattle.ucl_live_runs.proofs.Common.{Ok, Open, Option, Reached, Session}
+use Rattle.ucl_live_runs.proofs.Common.{Some, StandingEvent, [], after_lines, answer_lines, answer_said, answers}
+use Rattle.ucl_live_runs.proofs.Common.{arith, begun_line, board_in, ended_none, board_state_at, board_state_now}
+use Rattle.ucl_live_runs.proofs.Common.{board_state_with, ended_lines, few_lines}
+use Rattle.ucl_live_runs.proofs.Common.{inl, inr, is_later, last_lines, length, length-append}
+use Rattle.ucl_live_runs.proofs.Common.{length-take, lines_of, map, nat_tests, next, open_at, parse_board_line, refl, said_on, same_Some}
+use Rattle.ucl_live_runs.proofs.Common.{shown_text, start_of, subst, suc, sym, take, true, version_of, ℕ}
 use Rattle.ucl_live_runs.proofs.Common.{◌++◌, ◌+◌, ◌<◌, ◌^◌, ◌∙◌, ◌∷◌, ◌≡◌, ◌≤◌, ◌⊎◌}
-use Rattle.ucl_live_runs.proofs.AnswerLines.{IsAtMost, IsShown, begun-then, carried-none, carried-then, carried_in, shown-text}
-use Rattle.ucl_live_runs.proofs.FollowShown.{among, others, same-asked, versions}
+use Rattle.std.proofs.Common.{zero}
+use Rattle.ucl_live_runs.proofs.AnswerLines.{CarriesAtMost, IsAtMost, IsShort, carried-none, carried-then, carried_in, short-then, shown-text}
+use Rattle.ucl_live_runs.proofs.FollowShown.{same-asked}
 use Rattle.ucl_live_runs.proofs.Told.{IsBehind, IsSound, Tells, board-tells, line-tells, sound-next, start-sound}
 
 -- a board state that is behind another, that is, of its group and order and of an earlier edition or version, is older
-older : (m o : BoardState) → IsBehind o m → IsOlder m o
+pub older : (m o : BoardState) → IsBehind o m → IsOlder m o
 older m o b = (same-asked m.header o.header (sym b.same.0, sym b.same.1), later m o b.less)
   where
     later : (m o : BoardState) → (o.header.edition < m.header.edition) ⊎ ((o.header.edition ≡ m.header.edition) × (version_of o.board < version_of m.board)) → is_later m o ≡ true
     later m o (inl less) = grind (arith, nat_tests)
     later m o (inr less) = grind (arith, nat_tests)
 
--- if a board state is the same as a second or behind it (earlier, of one group and order), and that is behind a third, so is the first
-further : (a b c : BoardState) → (a ≡ b) ⊎ IsBehind a b → IsBehind b c → IsBehind a c
-further a b c (inl same) q = subst (λ (x : BoardState). IsBehind x c) (sym same) q
-further a b c (inr p) q = record {
+-- the first board state is the second, or behind it
+abbrev pub IsUpTo : BoardState → BoardState → Type 0
+IsUpTo a b = (a ≡ b) ⊎ IsBehind a b
+
+-- a board state that is behind a second is behind each that the second is or is behind
+pub beyond : (a b c : BoardState) → IsBehind a b → IsUpTo b c → IsBehind a c
+beyond a b c p (inl same) = subst (IsBehind a) same p
+beyond a b c p (inr q) = record {
   same = (p.same.0 ∙ q.same.0, p.same.1 ∙ q.same.1);
   less = elim p.less [
     | inl less ↦ elim q.less [ inl more ↦ inl (omega arith) | inr more ↦ inl (omega arith) ]
@@ -34,23 +40,37 @@ further a b c (inr p) q = record {
 }
 
 -- lines, each as its bytes
-abbrev Lines : Type 0
+abbrev pub Lines : Type 0
 Lines = List (List ℕ)
 
 -- what the lines of answers carry, one after the other
-abbrev Carried : Type 0
+abbrev pub Carried : Type 0
 Carried = List (Option BoardState)
 
--- the session has a board state, which was carried, and `o` is this one, or an earlier one of its group and order
-record IsNoNewerIn (e : Session) (out : Carried) (o : BoardState) : Type 0 where
-  now : BoardState
-  stands : board_state_now e ≡ Some now
-  behind : (o ≡ now) ⊎ IsBehind o now
-  carried : Contains out (Some now)
+-- the session has a board state, which is `m` or of which `m` is an earlier one, and this holds of it
+pub record Reaches (m : BoardState) (e : Session) (Told : BoardState → Type 0) : Type 0 where
+  pub now : BoardState
+  pub stands : board_state_now e ≡ Some now
+  pub upto : IsUpTo m now
+  pub told : Told now
 
--- each board state that was carried is that of the session or an earlier one, and that of the session was carried, if any was
-abbrev AreNoNewer : Session → Carried → Type 0
-AreNoNewer e out = (o : BoardState) → Contains out (Some o) → IsNoNewerIn e out o
+-- the board state of the session after the first lines, as many as `place` says, is `m`; in the end it is this or a newer one, and carried, if
+-- screens are asked for
+pub record WasTold (e : Session) (lines : Lines) (m : BoardState) : Type 0 where
+  pub place : ℕ
+  pub within : place ≤ length lines
+  pub stands : board_state_now (after_lines e (take place lines)) ≡ Some m
+  pub last : Reaches m (after_lines e lines) (λ (n : BoardState). e.options.screens ≡ true → Contains (carried_in (answers e lines)) (Some n))
+
+-- a sound session that answers in JSON, and that has row numbers of 64 bits for these lines
+pub record IsReady (e : Session) (lines : Lines) : Type 0 where
+  pub json : e.options.format ≡ Json
+  pub fits : e.row + length lines ≤ 2 ^ 64
+  pub sound : IsSound e
+
+-- a session that is ready for lines is ready for the first of them
+ready-take : (e : Session) (lines : Lines) (place : ℕ) → IsReady e lines → IsReady e (take place lines)
+ready-take e lines place is = record { json = is.json; fits = let few = length-take place lines in omega (arith, is.fits, few); sound = is.sound }
 
 -- the session has an open board, which is this board state
 record IsAtBoard (e : Session) (m : BoardState) : Type 0 where
@@ -74,10 +94,6 @@ fall-append (o ∷ a) b p q h =
     let Q = λ (o : Option BoardState). All (IsNoFall o) b in
     (All-append (IsNoFall o) a b p.0 (All-head Q o a h), fall-append a b p.1 q (All-tail Q o a h))
 
--- no answer counts as a fall (to an older board state) after an answer that carries no board state
-none-falls : (os : Carried) → All (IsNoFall None) os
-none-falls os = All-weaker (Contains os) (IsNoFall None) (λ _ _. tt) os (All-contains_itself os)
-
 -- if each of two answers carries nothing or just `most`, the second is no fall (to an older board state) from the first
 most-falls : (most o p : Option BoardState) → IsAtMost most o → IsAtMost most p → IsNoFall o p
 most-falls most None p h k = tt
@@ -94,91 +110,145 @@ same-falls most (o ∷ os) h =
     let rest = All-tail (IsAtMost most) o os h in
     (All-weaker (IsAtMost most) (IsNoFall o) (λ p. most-falls most o p (All-head (IsAtMost most) o os h)) os rest, same-falls most os rest)
 
--- one line more of a session that is sound
-module _ (e : Session) (r : Said) (shown : List ℕ) (json : e.options.format ≡ Json) (fits : e.row < 2 ^ 64) (g : IsSound e) (short : IsShown shown) where
-  abbrev text : List ℕ
-  text = answer_said e r shown
+-- what a session answers to a line
+abbrev answer_to : Session → List ℕ → List ℕ
+answer_to e line = answer_said e (said_on e.row line) (shown_text line)
 
-  at-moves : (m : BoardState) → board_state_now e ≡ Some m → Tells m (board_state_now (next e r)) text
-  at-moves m stands =
+-- a session after a line
+abbrev after : Session → List ℕ → Session
+after e line = next e (said_on e.row line)
+
+-- a session that is ready for a line and more
+module _ (e : Session) (line : List ℕ) (lines : Lines) (is : IsReady e (line ∷ lines)) where
+  abbrev here : Carried
+  here = carried_in (answer_to e line)
+
+  abbrev later : Carried
+  later = carried_in (answers (after e line) lines)
+
+  abbrev all : Carried
+  all = carried_in (answers e (line ∷ lines))
+
+  ready-next : IsReady (after e line) lines
+  ready-next = record { json = is.json; fits = omega (arith, is.fits); sound = sound-next e (said_on e.row line) is.sound }
+
+  tells : CarriesAtMost (board_state_now (after e line)) (answer_to e line)
+  tells = line-tells e (said_on e.row line) (shown_text line) is.json (omega (arith, is.fits)) is.sound (shown-text line)
+
+  moves : (m : BoardState) → board_state_now e ≡ Some m → Tells e.options.screens m (board_state_now (after e line)) (answer_to e line)
+  moves m stands =
       let at = at-board e e.phase m refl stands in
-      subst (λ (x : BoardState). Tells x (board_state_now (next e r)) text) at.same (board-tells e r shown json fits g short at.clubs at.events at.phase)
+      subst (λ (x : BoardState). Tells e.options.screens x (board_state_now (after e line)) (answer_to e line)) at.same
+      (board-tells e (said_on e.row line) (shown_text line) is.json (omega (arith, is.fits)) is.sound (shown-text line) at.clubs at.events at.phase)
 
-  -- the board states that were carried before it
-  module _ (out : Carried) (told : AreNoNewer e out) where
-    abbrev all : Carried
-    all = out ++ carried_in text
+  -- what the line carries is the board state after it
+  stands-now : (o : BoardState) → Contains here (Some o) → board_state_now (after e line) ≡ Some o
+  stands-now o t = most (All-contains (IsAtMost (board_state_now (after e line))) here (Some o) tells.each t)
+    where
+      most : {p : Option BoardState} → IsAtMost p (Some o) → p ≡ Some o
+      most (inl none) = cc
+      most (inr same) = sym same
 
-    -- what the line carries is the board state after it
-    stands-now : (o : BoardState) → Contains (carried_in text) (Some o) → board_state_now (next e r) ≡ Some o
-    stands-now o is = most (All-contains (IsAtMost (board_state_now (next e r))) (carried_in text) (Some o) (line-tells e r shown json fits g short).each is)
-      where
-        most : {p : Option BoardState} → IsAtMost p (Some o) → p ≡ Some o
-        most (inl none) = cc
-        most (inr same) = sym same
+  parts : all ≡ here ++ later
+  unfolding answers
+  parts = carried-then (answer_to e line) (answers (after e line) lines) tells.begun
 
-    now-carried : (o : BoardState) → Contains (carried_in text) (Some o) → IsNoNewerIn (next e r) all o
-    now-carried o is = record {
-      now = o;
-      stands = stands-now o is;
-      behind = inl refl;
-      carried = Contains-append_right out (carried_in text) (Some o) is;
-    }
+  now-or-later : (o : Option BoardState) → Contains all o → Contains here o ⊎ Contains later o
+  now-or-later o t = Contains-append_cases here later o (subst (λ (os : Carried). Contains os o) parts t)
 
-    was-carried : (o : BoardState) → IsNoNewerIn e out o → IsNoNewerIn (next e r) all o
-    was-carried o b = elim (at-moves b.now b.stands).moves [
-      | inl same ↦ record { now = b.now; stands = same; behind = b.behind; carried = Contains-append_left out (carried_in text) (Some b.now) b.carried }
-      | inr (m, stands, behind, is) ↦
-          record { now = m; stands = stands; behind = inr (further o b.now m b.behind behind); carried = Contains-append_right out (carried_in text) (Some m) is }
-    ]
+  told-now : (o : Option BoardState) → Contains here o → Contains all o
+  told-now o t = subst (λ (os : Carried). Contains os o) (sym parts) (Contains-append_left here later o t)
 
-    -- with one line more, all that was carried is no newer than the board state of the session
-    one-line : AreNoNewer (next e r) all
-    one-line o is = elim (Contains-append_cases out (carried_in text) (Some o) is) [ inl before ↦ was-carried o (told o before) | inr now ↦ now-carried o now ]
+  told-later : (o : Option BoardState) → Contains later o → Contains all o
+  told-later o t = subst (λ (os : Carried). Contains os o) (sym parts) (Contains-append_right here later o t)
 
-    -- what a line carries is not older than what was carried before it
-    rises : (o : Option BoardState) → Contains out o → All (IsNoFall o) (carried_in text)
-    rises None t = none-falls (carried_in text)
-    rises (Some x) t = All-weaker (Contains (carried_in text)) (IsNoFall (Some x)) each (carried_in text) (All-contains_itself (carried_in text))
-      where
-        each : (o : Option BoardState) → Contains (carried_in text) o → IsNoFall (Some x) o
-        each None k = tt
-        each (Some y) k =
-            let w = was-carried x (told x t) in
-            let same : w.now ≡ y = same_Some w.now y (sym w.stands ∙ stands-now y k) in elim (rw same at w.behind) [ inl this ↦ inl this | inr behind ↦ inr (older y x behind) ]
+  -- if the line carries a board state, and this is a second one or the second is carried later, the second is carried
+  told-either : (o n : BoardState) → Contains here (Some o) → (o ≡ n) ⊎ Contains later (Some n) → Contains all (Some n)
+  told-either o n t (inl same) = told-now (Some n) (subst (λ (x : BoardState). Contains here (Some x)) same t)
+  told-either o n t (inr more) = told-later (Some n) more
 
-    line-falls : NeverFall out → NeverFall all
-    line-falls falls = fall-append out (carried_in text) falls
-        (same-falls (board_state_now (next e r)) (carried_in text) (line-tells e r shown json fits g short).each)
-        (All-weaker (Contains out) (λ o. All (IsNoFall o) (carried_in text)) rises out (All-contains_itself out))
+-- an empty text carries no board state
+nothing : (o : BoardState) → Contains (carried_in []) (Some o) → ⊥
+nothing o t = none (subst (λ (os : Carried). Contains os (Some o)) carried-none t)
+  where
+    none : Contains [] (Some o) → ⊥
+    none h = omega (arith, h.1)
 
--- the answers to these lines are whole lines; with what they carry put behind `out`, what was carried before, no board state is newer than
--- that of the session after the lines, and none is older than one before it
-record Walks (e : Session) (out : Carried) (lines : Lines) : Type 0 where
-  begun : begun_line 4097 [] (answers e lines) ≡ []
-  told : AreNoNewer (after_lines e lines) (out ++ carried_in (answers e lines))
-  falls : NeverFall (out ++ carried_in (answers e lines))
+-- from a session with a board state lines lead to one with the same, or with a newer one, which an answer carries if screens are asked for
+onwards : (e : Session) (lines : Lines) (m : BoardState) → IsReady e lines → board_state_now e ≡ Some m
+    → Reaches m (after_lines e lines) (λ (n : BoardState). e.options.screens ≡ true → (m ≡ n) ⊎ Contains (carried_in (answers e lines)) (Some n))
+unfolding after_lines
+onwards e [] m is h = record { now = m; stands = h; upto = inl refl; told = λ on. inl refl }
+onwards e (line ∷ lines) m is h = elim (moves e line lines is m h).moves [
+  | inl same ↦
+      let w = onwards (after e line) lines m (ready-next e line lines is) same in
+      record {
+        now = w.now;
+        stands = w.stands;
+        upto = w.upto;
+        told = λ on. elim (w.told on) [ inl still ↦ inl still | inr more ↦ inr (told-later e line lines is (Some w.now) more) ];
+      }
+  | inr (n, stands, behind, is_told) ↦
+      let w = onwards (after e line) lines n (ready-next e line lines is) stands in
+      record { now = w.now; stands = w.stands; upto = inr (beyond m n w.now behind w.upto); told = λ on. inr (told-either e line lines is n w.now (is_told on) (w.told on)) }
+]
 
--- if of the board states that were carried none is newer than that of the session, and none older than one before it, this stays so with
--- those that the answers to more lines carry
-walks : (e : Session) (out : Carried) (lines : Lines) → e.options.format ≡ Json → e.row + length lines ≤ 2 ^ 64 → IsSound e → AreNoNewer e out → NeverFall out → Walks e out lines
-unfolding answers after_lines
-walks e out [] json fits g told falls = record { begun = begun_none 4097 []; told = rw (carried-none, append-nil out) told; falls = rw (carried-none, append-nil out) falls }
-walks e out (line ∷ lines) json fits g told falls =
-    let r = said_on e.row line in
-    let shown = shown_text line in
-    let text = answer_said e r shown in
-    let few : e.row < 2 ^ 64 = omega arith in
-    let short = shown-text line in
-    let one = line-tells e r shown json few g short in
-    let more = walks (next e r) (out ++ carried_in text) lines json (omega arith) (sound-next e r g) (one-line e r shown json few g short out told)
-    (line-falls e r shown json few g short out told falls) in
-    let parts = ap (λ (os : Carried). out ++ os) (carried-then text (answers (next e r) lines) one.begun) ∙ sym (append_assoc out (carried_in text) (carried_in (answers (next e r) lines))) in
-    record {
-      begun = begun-then text (answers (next e r) lines) one.begun more.begun;
-      told = subst (AreNoNewer (after_lines (next e r) lines)) (sym parts) more.told;
-      falls = subst NeverFall (sym parts) more.falls;
-    }
+-- each board state that answers carry is that of the session after some of the lines, and is the last one, or older than that
+pub was-told : (e : Session) (lines : Lines) (o : BoardState) → IsReady e lines → Contains (carried_in (answers e lines)) (Some o) → WasTold e lines o
+unfolding after_lines answers
+was-told e [] o is t = absurd (nothing o t)
+was-told e (line ∷ lines) o is t = elim (now-or-later e line lines is (Some o) t) [
+  | inl now ↦
+      let stands = stands-now e line lines is o now in
+      let w = onwards (after e line) lines o (ready-next e line lines is) stands in
+      record {
+        place = 1;
+        within = omega arith;
+        stands = stands;
+        last = record { now = w.now; stands = w.stands; upto = w.upto; told = λ on. told-either e line lines is o w.now now (w.told on) };
+      }
+  | inr more ↦
+      let w = was-told (after e line) lines o (ready-next e line lines is) more in
+      let last = w.last in record {
+        place = suc w.place;
+        within = omega (arith, w.within);
+        stands = w.stands;
+        last = record { now = last.now; stands = last.stands; upto = last.upto; told = λ on. told-later e line lines is (Some last.now) (last.told on) };
+      }
+]
+
+-- the board state after some of the lines is that after as many or more of them, or behind it
+pub climbs : (e : Session) (lines : Lines) (i j : ℕ) (a b : BoardState) → IsReady e lines → i ≤ j → board_state_now (after_lines e (take i lines)) ≡ Some a
+    → board_state_now (after_lines e (take j lines)) ≡ Some b → IsUpTo a b
+unfolding after_lines
+climbs e lines zero j a b is few h k =
+    let w = onwards e (take j lines) a (ready-take e lines j is) h in
+    subst (IsUpTo a) (same_Some w.now b (sym w.stands ∙ k)) w.upto
+climbs e lines (suc i) zero a b is few h k = absurd (omega arith)
+climbs e [] (suc i) (suc j) a b is few h k = inl (same_Some a b (sym h ∙ k))
+climbs e (line ∷ lines) (suc i) (suc j) a b is few h k = climbs (after e line) lines i j a b (ready-next e line lines is) (omega arith) h k
+
+-- the board states that answers carry never fall
+falls : (e : Session) (lines : Lines) → IsReady e lines → NeverFall (carried_in (answers e lines))
+unfolding NeverFall answers after_lines
+falls e [] is = subst NeverFall (sym carried-none) tt
+falls e (line ∷ lines) is =
+    let now = here e line lines is in
+    let more = later e line lines is in
+    subst NeverFall (sym (parts e line lines is)) (fall-append now more (same-falls (board_state_now (after e line)) now (tells e line lines is).each)
+    (falls (after e line) lines (ready-next e line lines is))
+    (All-weaker (Contains now) (λ o. All (IsNoFall o) more) (λ o t. All-weaker (Contains more) (IsNoFall o) (λ p. no-fall o p t) more (All-contains_itself more)) now (All-contains_itself now)))
+  where
+    no-fall : (o p : Option BoardState) → Contains (here e line lines is) o → Contains (later e line lines is) p → IsNoFall o p
+    no-fall None p t k = tt
+    no-fall (Some x) None t k = tt
+    no-fall (Some x) (Some y) t k =
+        let ready = ready-next e line lines is in
+        let at = was-told (after e line) lines y ready k in
+        elim (climbs (after e line) lines zero at.place x y ready (omega arith) (stands-now e line lines is x t) at.stands) [
+          | inl same ↦ inl same
+          | inr behind ↦ inr (older y x behind)
+        ]
 
 -- the last line of an input is at most one line
 last-few : (line : List ℕ) → length (last_lines line) ≤ 1
@@ -194,68 +264,61 @@ lines-few bytes =
     let few = few_lines 258 [] bytes in
     omega (arith, length-append ended (last_lines begun), one, few)
 
--- of the board states that the answers to a record carry, none is older than one before it, and none newer than the board at its end
-all-walks : (options : LiveArgs) (rows : List ℕ) → options.format ≡ Json → length rows ≤ 2 ^ 62 → Walks (start_of options) [] (lines_of rows)
-unfolding NeverFall
-all-walks options rows json short =
-    walks (start_of options) [] (lines_of rows) json (omega (arith, lines-few rows, short)) (start-sound options) (λ o none. absurd (omega (arith, none.1))) tt
+-- a record is ready to be answered
+pub ready : (options : LiveArgs) (rows : List ℕ) → options.format ≡ Json → length rows ≤ 2 ^ 62 → IsReady (start_of options) (lines_of rows)
+ready options rows json short = record { json = json; fits = omega (arith, lines-few rows, short); sound = start-sound options }
+
+-- each line of answers has at most 4,096 bytes
+all-short : (e : Session) (lines : Lines) → IsReady e lines → All IsShort (ended_lines 4097 [] (answers e lines))
+unfolding answers
+all-short e [] is = rw (ended_none 4097 []) (All-nil IsShort)
+all-short e (line ∷ lines) is =
+    let one = tells e line lines is in
+    short-then (answer_to e line) (answers (after e line) lines) one.begun one.short (all-short (after e line) lines (ready-next e line lines is))
+
+-- each line of the answers to a record in JSON has at most 4,096 bytes
+pub lines-fit : AnswersFitTheirLines
+unfolding AnswersFitTheirLines
+lines-fit options rows json short = all-short (start_of options) (lines_of rows) (ready options rows json short)
 
 -- the board states that the JSON answers to a record carry, one after the other, never fall
 pub never-fall : AnswersNeverFall
 unfolding AnswersNeverFall
-never-fall options rows json short = (all-walks options rows json short).falls
+never-fall options rows json short = falls (start_of options) (lines_of rows) (ready options rows json short)
 
 -- a record, which ends with this board state
 module _ (options : LiveArgs) (rows : List ℕ) (args : FollowArgs) (m : BoardState) (is : IsRecord options rows args m) where
   abbrev lines : Lines
   lines = answer_lines options rows
 
-  told : AreNoNewer (after_record options rows) (map parse_board_line lines)
-  told = (all-walks options rows is.json is.short).told
+  -- if its answers carry a board state, the one at its end is the same or newer, and they carry it, if screens are asked for
+  up-to : (other : BoardState) → IsCarriedIn lines other → IsUpTo other m × (options.screens ≡ true → IsCarriedIn lines m)
+  up-to other t =
+      let w = (was-told (start_of options) (lines_of rows) other (ready options rows is.json is.short) t).last in
+      subst (λ (x : BoardState). IsUpTo other x × (options.screens ≡ true → IsCarriedIn lines x)) (same_Some w.now m (sym w.stands ∙ is.ends)) (w.upto, w.told)
 
-  -- each board state that its answers carry is no newer
-  no-newer : (other : BoardState) → IsCarriedIn lines other → IsNoNewer args m (Some other)
-  no-newer other t =
-      let b = told other t in
-      let same : b.now ≡ m = same_Some b.now m (sym b.stands ∙ is.ends) in
-      elim (rw same at b.behind) [ inl this ↦ inr (inl this) | inr behind ↦ inr (inr (older m other behind)) ]
-
-  -- the board state at the end of a record is the latest that its answers carry, if they carry any
-  pub is-latest : (other : BoardState) → IsCarriedIn lines other → IsLatest args m lines
-  is-latest other t =
-      let b = told other t in
-      let same : b.now ≡ m = same_Some b.now m (sym b.stands ∙ is.ends) in record {
-        carried = subst (λ (x : BoardState). IsCarriedIn lines x) same b.carried;
-        asked = is.asked;
-        newest = All-weaker (Contains os) (IsNoNewer args m) each os (All-contains_itself os);
-      }
+  -- the board state at the end of a record is the latest that its answers carry, if they carry it, or, with screens, any
+  pub is-latest : (other : BoardState) → IsCarriedIn lines other → (options.screens ≡ true) ⊎ (other ≡ m) → IsLatest args m lines
+  is-latest other t which = record {
+    carried = elim which [ inl on ↦ (up-to other t).1 on | inr this ↦ subst (λ (x : BoardState). IsCarriedIn lines x) this t ];
+    asked = is.asked;
+    newest = All-weaker (Contains os) (IsNoNewer args m) each os (All-contains_itself os);
+  }
     where
       os : Carried
       os = map parse_board_line lines
 
       each : (o : Option BoardState) → Contains os o → IsNoNewer args m o
       each None t = tt
-      each (Some other) t = no-newer other t
+      each (Some other) t = elim (up-to other t).0 [ inl this ↦ inr (inl this) | inr behind ↦ inr (inr (older m other behind)) ]
 
--- the board state at the end of a record is the latest that its answers carry, if they carry any
+-- the board state at the end of a record is the latest that its answers carry, if they carry it, or, with screens, any
 pub ends-with-the-board : FollowersEndWithTheBoard
 unfolding FollowersEndWithTheBoard
-ends-with-the-board options rows args m other is told = is-latest options rows args m is other told
+ends-with-the-board options rows args m other is told which = is-latest options rows args m is other told which
 
--- the screen of a board state, as text
-abbrev screen_at : BoardState → List ℕ
-screen_at m = screen_text m.header.profile m.board m.roster m.header.group
-
--- of answers to a record, in any order and number, the table at its end is shown last, if one carries the board state of it
-pub same-table : SameRowsSameTable
-unfolding SameRowsSameTable OthersDoNotMatter ShownVersionsRise
-same-table options rows args m lines is all told =
-    let out = answer_lines options rows in
-    let carried = All-contains (Contains (map parse_board_line out)) (map parse_board_line lines) (Some m) (among out lines all) told in
-    let latest = is-latest options rows args m is m carried in
-    let last = others args m out lines latest all told in
-    let text = (versions (unseen args) lines).text ∙ ap (flat_map screen_at) last.shown ∙ flat_map-append screen_at last.before (m ∷ []) in record {
-      shown = last;
-      before = flat_map screen_at last.before;
-      table = text ∙ ap (λ (l : List ℕ). flat_map screen_at last.before ++ l) (append-nil (screen_at m));
-    }
+-- a sound session is sound after any lines
+pub sound-after : (e : Session) (lines : Lines) → IsSound e → IsSound (after_lines e lines)
+unfolding after_lines
+sound-after e [] g = g
+sound-after e (line ∷ lines) g = sound-after (after e line) lines (sound-next e (said_on e.row line) g)

@@ -1,6 +1,6 @@
 -- Whole runs of handlers whose text is a function of the lines, and of sessions and followers, from what the driver says of them.
-use Rattle.ucl_live_runs.proofs.Common.{Closes, Err, FollowArgs, FollowState, HasNoAnswer, HasNoEnd, IsRejected, List, LiveFault, None, Ok}
-use Rattle.ucl_live_runs.proofs.Common.{OutOfMemory, IsOutInPart, Result, Session, Some, [], RunFault, after_bytes, after_line, after_lines, answer_said}
+use Rattle.ucl_live_runs.proofs.Common.{Closes, Err, FollowArgs, FollowState, HasNoAnswer, HasNoEnd, IsRejected, List, LiveFault, NeedsMemory, None, Ok}
+use Rattle.ucl_live_runs.proofs.Common.{OutOfMemory, RanOutOfMemory, Result, Session, Some, [], RunFault, after_bytes, after_line, after_lines, answer_said}
 use Rattle.ucl_live_runs.proofs.Common.{answers, answers_to, ap, append-nil, append_assoc, arith, begun_line, cut_at, ended_lines, false, follow_outputs}
 use Rattle.ucl_live_runs.proofs.Common.{follow_text, followed, inl, inr, last_lines, length, line_output, live_text, missing_after, missing_at, next, refl}
 use Rattle.ucl_live_runs.proofs.Common.{Option, said_on, session_due, session_of, shown_text, subst, sym, unseen, ℕ, ◌++◌, ◌+◌, ◌∙◌, ◌∷◌, ◌≡◌, ◌≤◌, ◌⊎◌}
@@ -162,7 +162,7 @@ abbrev pub SessionRules : LineRules Held LiveFault
 SessionRules = rules_of
     (λ m row line n text. (session_of n (row + 1) ≡ next (session_of m row) (said_on row line))
     × (text ≡ answer_said (session_of m row) (said_on row line) (shown_text line)))
-    (λ m row line n fault. HasNoAnswer (session_of m row) (said_on row line) fault)
+    (λ m row line n fault. HasNoAnswer (session_of m row) line fault)
     (λ m row begun n text. Closes (session_of m row) begun text)
     (λ m row begun n fault. HasNoEnd (session_of m row) begun fault)
 
@@ -201,10 +201,14 @@ module _ (m : Held) where
       abbrev then : Session
       then = next reached (said_on reached.row line)
 
-      in_part : IsOutInPart start bytes before after
-      in_part =
-          let at = cut_at 258 [] bytes front line later next_is in
-          record { front = at.front; rest = 10 ∷ at.more; parts = at.parts; out = rw (shows front t k p, ← at.before) at out }
+      lacks : NeedsMemory reached line → RanOutOfMemory start bytes before after
+      lacks needs = let at = cut_at 258 [] bytes front line later next_is in record {
+        front = at.front;
+        rest = 10 ∷ at.more;
+        parts = at.parts;
+        out = rw (shows front t k p, ← at.before) at out;
+        needs = rw (at.before, at.begun, ← reaches) needs;
+      }
 
       rejects : (fault : LiveFault) → then.phase ≡ Err fault → IsRejected start bytes before after fault
       unfolding after_lines
@@ -223,8 +227,14 @@ module _ (m : Held) where
       here : reached ≡ after_bytes start bytes
       here = reaches ∙ ap (after_lines start) lines
 
-      in_part_last : IsOutInPart start bytes before after
-      in_part_last = record { front = bytes; rest = []; parts = sym (append-nil bytes); out = rw whole_text at out }
+      lacks_last : NeedsMemory reached (begun_line 258 [] bytes) → RanOutOfMemory start bytes before after
+      lacks_last needs = record {
+        front = bytes;
+        rest = [];
+        parts = sym (append-nil bytes);
+        out = rw whole_text at out;
+        needs = subst (λ (s : Session). NeedsMemory s (begun_line 258 [] bytes)) here needs;
+      }
 
       rejects_last : (fault : LiveFault) → missing_at reached (begun_line 258 [] bytes) ≡ Some fault → IsRejected start bytes before after fault
       rejects_last fault h =
@@ -242,11 +252,11 @@ module _ (m : Held) where
     turns = shows;
     closes = λ bytes t last k n p. closes bytes (ended_lines 258 [] bytes) t k p last refl;
     stops_next = λ bytes front t line later k n fault before after p lines s out. elim s [
-      | inl none ↦ inl (none, in_part bytes front t k p line later lines before after out)
+      | inl none ↦ inl (none.0, lacks bytes front t k p line later lines before after out none.1)
       | inr refused ↦ inr (rejects bytes front t k p line later lines before after out fault refused)
     ];
     stops_last = λ bytes t k n fault before after p ended s out. elim s [
-      | inl none ↦ inl (none, in_part_last bytes (ended_lines 258 [] bytes) t k p refl before after ended out)
+      | inl none ↦ inl (none.0, lacks_last bytes (ended_lines 258 [] bytes) t k p refl before after ended out none.1)
       | inr missing ↦ inr (rejects_last bytes (ended_lines 258 [] bytes) t k p refl before after ended out fault missing)
     ];
   }

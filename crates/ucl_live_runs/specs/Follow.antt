@@ -1,6 +1,6 @@
 -- What a follower (`ucl_follow`) shows of the lines that it reads: each board state that is newer than all before.
 use Rattle.std.specs.List.{Contains, fold}
-use Rattle.std.specs.Prelude.{All, Bool, IfSome, List, None, Ok, Option, Some, [], false, flat_map, length, map, min, nat_lt, option_to_list, true, ℕ, ⊤}
+use Rattle.std.specs.Prelude.{All, Bool, List, None, Ok, Option, Some, [], false, flat_map, length, map, min, nat_lt, option_to_list, true, ℕ, ⊤}
 use Rattle.std.specs.Result.{is_ok}
 use Rattle.ucl_board.specs.History.{Attempt, IsAttempt, IsLegal, after_attempt, board_after, board_of, sequential_reply}
 use Rattle.ucl_board.specs.Words.{AreWords, version_of}
@@ -11,14 +11,13 @@ use Rattle.ucl_command.specs.declared.live.LiveArgs.{LiveArgs}
 use Rattle.ucl_io.specs.Lines.{ended_lines}
 use Rattle.ucl_json.specs.BoardLines.{parse_board_line, parse_board_state}
 use Rattle.ucl_json.specs.Lines.{json_line}
-use Rattle.ucl_json.specs.Mended.{mended_value, mended_with}
-use Rattle.ucl_json.specs.Values.{accepted_value, edition_screen_value, matches_value}
+use Rattle.serde_json.specs.Data.{Data}
+use Rattle.ucl_json.specs.Values.{edition_screen_value}
 use Rattle.ucl_json.specs.declared.board_state.BoardState.{BoardState}
 use Rattle.ucl_json.specs.declared.header.BoardHeader.{BoardHeader}
 use Rattle.ucl_order.specs.Roster.{IsRoster, NamedClub}
 use Rattle.ucl_rows.specs.InputLines.{lines_of}
 use Rattle.ucl_screen.specs.Screen.{IsGroup, screen_text}
-use Rattle.ucl_screen.specs.declared.night.NightEvent.{NightEvent}
 use Rattle.std.specs.Prelude.{if◌then◌else◌, ◌&&◌, ◌++◌, ◌+◌, ◌-◌, ◌<◌, ◌==◌, ◌^◌, ◌||◌, ◌∷◌, ◌≡◌, ◌≤◌, ◌⊎◌}
 use Rattle.ucl_screen.specs.Matches.{matches_text}
 use Rattle.ucl_command.specs.declared.follow.FollowShape.TheVariants.{Json, Matches, Text}
@@ -33,9 +32,13 @@ use Rattle.ucl_command.specs.declared.options.Format.TheVariants as format
 
 -- ---- what is shown
 
+-- the table of a board state: its screen, as text
+abbrev pub table_text : BoardState → List ℕ
+table_text board_state = screen_text board_state.header.profile board_state.board board_state.roster board_state.header.group
+
 -- the text that shows a board state which the line of this number carries: its screen, as text or in JSON, or its twelve matches
 abbrev pub output_text : FollowShape → ℕ → BoardState → List ℕ
-output_text Text row board_state = screen_text board_state.header.profile board_state.board board_state.roster board_state.header.group
+output_text Text row board_state = table_text board_state
 output_text Json row board_state = json_line (edition_screen_value row board_state.header board_state.board board_state.roster)
 output_text Matches row board_state = matches_text board_state.board board_state.roster
 
@@ -131,7 +134,7 @@ IsFollowed state board_state = is_asked state.group state.profile board_state.he
 -- order that it follows at the beginning (`asked`) and at the end (`has_header`). As text it writes just their screens
 pub record RisesInText (state : FollowState) (lines : List (List ℕ)) : Type 0 where
   pub rise : RiseAbove state.newest (board_states_shown state lines)
-  pub text : follow_outputs Text state lines ≡ flat_map (λ board_state. screen_text board_state.header.profile board_state.board board_state.roster board_state.header.group) (board_states_shown state lines)
+  pub text : follow_outputs Text state lines ≡ flat_map table_text (board_states_shown state lines)
   pub carried : All (IsCarriedIn lines) (board_states_shown state lines)
   pub asked : All (IsFollowed state) (board_states_shown state lines)
   pub has_header : All (IsFollowed (followed state lines)) (board_states_shown state lines)
@@ -168,12 +171,18 @@ pub record IsShownLast (args : FollowArgs) (board_state : BoardState) (lines : L
 unfoldable pub LatestIsShownLast : Type 0
 LatestIsShownLast = (args : FollowArgs) (board_state : BoardState) (lines : List (List ℕ)) → IsLatest args board_state lines → IsShownLast args board_state lines
 
--- theorem: the latest board state of `lines` is shown last of `others`, some of them in any order, if one of these carries it
+-- of the board states that `args` asks for, `others` carry only such as `lines` carry: they may be `lines` in any order, doubled or in part,
+-- and other lines that carry no such board state
+abbrev pub CarryNoOther : FollowArgs → List (List ℕ) → List (List ℕ) → Type 0
+CarryNoOther args lines others =
+    (board_state : BoardState) → IsCarriedIn others board_state → is_asked args.group args.profile board_state.header ≡ true → IsCarriedIn lines board_state
+
+-- theorem: the latest board state of `lines` is shown last of `others` that carry no other board states, if one of these carries it
 unfoldable pub OthersDoNotMatter : Type 0
-OthersDoNotMatter = (args : FollowArgs) (board_state : BoardState) (lines others : List (List ℕ)) → IsLatest args board_state lines → All (Contains lines) others
+OthersDoNotMatter = (args : FollowArgs) (board_state : BoardState) (lines others : List (List ℕ)) → IsLatest args board_state lines → CarryNoOther args lines others
     → IsCarriedIn others board_state → IsShownLast args board_state others
 
--- ---- the answers of a session, as a follower reads them
+-- ---- the screens of a session, as a follower reads them
 
 -- a board state is one that there can be: a group from A to H, an edition of 16 bits, a roster and a board, whose words have 64 bits
 pub record IsBoardState (board_state : BoardState) : Type 0 where
@@ -183,41 +192,18 @@ pub record IsBoardState (board_state : BoardState) : Type 0 where
   pub words : AreWords board_state.board
   pub bits : All (λ word. word < 2 ^ 64) board_state.board
 
--- the JSON values of the answers to this accepted event and to a mend, and that of a screen, parse to just the board state that they are
--- made from
-pub record CarriesItsBoardState (row : ℕ) (event : NightEvent) (number : ℕ) (board_state : BoardState) : Type 0 where
-  pub reply : parse_board_state (accepted_value row event number board_state.header board_state.board board_state.roster) ≡ Some board_state
-  pub screen : parse_board_state (edition_screen_value row board_state.header board_state.board board_state.roster) ≡ Some board_state
-  pub mended : (without : Option ℕ) (left_out : ℕ)
-      → parse_board_state (mended_with without (mended_value row left_out board_state.header board_state.board board_state.roster)) ≡ Some board_state
+-- the JSON value of the screen of a board state, in answer to the row of this number
+abbrev pub screen_of : ℕ → BoardState → Data
+screen_of row board_state = edition_screen_value row board_state.header board_state.board board_state.roster
 
--- theorem: the JSON values of the answers to an accepted event and to a mend, and that of a screen, parse to just their board state
-unfoldable pub AnswersTellTheirBoardState : Type 0
-AnswersTellTheirBoardState = (row : ℕ) (event : NightEvent) (number : ℕ) (board_state : BoardState) → IsBoardState board_state → CarriesItsBoardState row event number board_state
+-- theorem: the JSON value of a screen parses to just the board state that it is made from
+unfoldable pub ScreensTellTheirBoardState : Type 0
+ScreensTellTheirBoardState = (row : ℕ) (board_state : BoardState) → IsBoardState board_state → parse_board_state (screen_of row board_state) ≡ Some board_state
 
--- the reporter, the match and the expected event number of an event each have 64 bits
-pub record HasNumbers (event : NightEvent) : Type 0 where
-  pub reporter : event.reporter < 2 ^ 64
-  pub game : event.call.game < 2 ^ 64
-  pub expected : event.call.expected < 2 ^ 64
-
--- the JSON lines of the answers to this accepted event and to a mend, and that of a screen, parse to just the board state that they are
--- made from
-pub record CarriesOnItsLine (row : ℕ) (event : NightEvent) (number : ℕ) (board_state : BoardState) : Type 0 where
-  pub reply : parse_board_line (compact_text (accepted_value row event number board_state.header board_state.board board_state.roster)) ≡ Some board_state
-  pub screen : parse_board_line (compact_text (edition_screen_value row board_state.header board_state.board board_state.roster)) ≡ Some board_state
-  pub mended : (without : Option ℕ) (left_out : ℕ) → IfSome without (λ n. n < 2 ^ 64) → left_out < 2 ^ 64
-      → parse_board_line (compact_text (mended_with without (mended_value row left_out board_state.header board_state.board board_state.roster))) ≡ Some board_state
-
--- theorem: the JSON lines of the answers to an accepted event and to a mend, and that of a screen, parse to their board state, if all
--- numbers have 64 bits
+-- theorem: the JSON line of a screen parses to just the board state that it is made from, if the number of the row has 64 bits
 unfoldable pub LinesTellTheirBoardState : Type 0
-LinesTellTheirBoardState = (row : ℕ) (event : NightEvent) (number : ℕ) (board_state : BoardState) → IsBoardState board_state → row < 2 ^ 64 → HasNumbers event → number < 2 ^ 64
-    → CarriesOnItsLine row event number board_state
-
--- theorem: the JSON line that shows the twelve matches of a board has at most 4,096 bytes
-unfoldable pub MatchesFitTheirLine : Type 0
-MatchesFitTheirLine = (row : ℕ) (board_state : BoardState) → IsBoardState board_state → row < 2 ^ 64 → length (compact_text (matches_value row board_state.board board_state.roster)) ≤ 4096
+LinesTellTheirBoardState = (row : ℕ) (board_state : BoardState) → IsBoardState board_state → row < 2 ^ 64
+    → parse_board_line (compact_text (screen_of row board_state)) ≡ Some board_state
 
 -- ---- events that are entered again in one edition, and change nothing
 
@@ -281,6 +267,11 @@ unfoldable pub NeverFall : List (Option BoardState) → Type 0
 NeverFall [] = ⊤
 NeverFall (first ∷ rest) = All (IsNoFall first) rest × NeverFall rest
 
+-- theorem: each line of the answers to a record in JSON has at most 4,096 bytes
+unfoldable pub AnswersFitTheirLines : Type 0
+AnswersFitTheirLines = (options : LiveArgs) (rows : List ℕ) → options.format ≡ format.Json → length rows ≤ 2 ^ 62
+    → All (λ line. length line ≤ 4096) (answer_lines options rows)
+
 -- theorem: the board states that the answers to a record carry, one after the other, never fall, also when it mends
 unfoldable pub AnswersNeverFall : Type 0
 AnswersNeverFall = (options : LiveArgs) (rows : List ℕ) → options.format ≡ format.Json → length rows ≤ 2 ^ 62 → NeverFall (map parse_board_line (answer_lines options rows))
@@ -292,18 +283,8 @@ pub record IsRecord (options : LiveArgs) (rows : List ℕ) (args : FollowArgs) (
   pub ends : board_state_now (after_record options rows) ≡ Some board_state
   pub asked : is_asked args.group args.profile board_state.header ≡ true
 
--- theorem: the board state at the end of a record, after all its mends, is the latest that the answers carry, if they carry any
+-- theorem: the board state at the end of a record, after all its mends, is the latest that the answers carry, if they carry it; with
+-- `--screens`, if they carry any
 unfoldable pub FollowersEndWithTheBoard : Type 0
 FollowersEndWithTheBoard = (options : LiveArgs) (rows : List ℕ) (args : FollowArgs) (board_state other : BoardState) → IsRecord options rows args board_state
-    → IsCarriedIn (answer_lines options rows) other → IsLatest args board_state (answer_lines options rows)
-
--- a follower shows this board state last of these lines, and, as text, writes its screen, which is its table, last
-pub record EndsWithTable (args : FollowArgs) (board_state : BoardState) (lines : List (List ℕ)) : Type 0 where
-  pub shown : IsShownLast args board_state lines
-  pub before : List ℕ
-  pub table : follow_outputs Text (unseen args) lines ≡ before ++ screen_text board_state.header.profile board_state.board board_state.roster board_state.header.group
-
--- theorem: of answers to a record, in any order and number, the table at its end is shown last, if one carries the board state of it
-unfoldable pub SameRowsSameTable : Type 0
-SameRowsSameTable = (options : LiveArgs) (rows : List ℕ) (args : FollowArgs) (board_state : BoardState) (lines : List (List ℕ)) → IsRecord options rows args board_state
-    → All (Contains (answer_lines options rows)) lines → IsCarriedIn lines board_state → EndsWithTable args board_state lines
+    → IsCarriedIn (answer_lines options rows) other → (options.screens ≡ true) ⊎ (other ≡ board_state) → IsLatest args board_state (answer_lines options rows)

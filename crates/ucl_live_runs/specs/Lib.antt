@@ -1,6 +1,7 @@
 pub mod Requests
 pub mod Driven
 pub mod Clubs
+pub mod NewClubs
 pub mod Mends
 pub mod Phases
 pub mod LiveText
@@ -8,3 +9,4 @@ pub mod LiveTheorems
 pub mod SessionRuns
 pub mod Follow
 pub mod FollowerRuns
+pub mod Moments

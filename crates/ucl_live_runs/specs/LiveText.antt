@@ -46,17 +46,17 @@ pub record Stage : Type 0 where
 abbrev pub stage : BoardHeader → Reached → Stage
 stage header phase = record { header = header; phase = phase }
 
--- header and phase of an open board after a mend, which a row that says `said` asks for, by the reply to it: a later edition, with clubs
+-- header and phase of an open board after a mend, by the reply to it: a later edition, with clubs
 -- and events as the mend makes them; or, if it is refused, as before
-abbrev pub mended_stage : BoardHeader → List NamedClub → List StandingEvent → Said → Mend → Result ℕ MendRefusal → Stage
-mended_stage header clubs events said mend (Ok edition) = stage (record header { edition = edition }) (open_at (clubs_after clubs said mend) (events_after events mend))
-mended_stage header clubs events said mend (Err refusal) = stage header (open_at clubs events)
+abbrev pub mended_stage : BoardHeader → List NamedClub → List StandingEvent → Mend → Result ℕ MendRefusal → Stage
+mended_stage header clubs events mend (Ok edition) = stage (record header { edition = edition }) (open_at (clubs_after clubs mend) (events_after events mend))
+mended_stage header clubs events mend (Err refusal) = stage header (open_at clubs events)
 
 -- header and phase after a request of row number `row`: an accepted event stands; a mend changes both, if it is not refused
-abbrev pub request_stage : BoardHeader → ℕ → List NamedClub → List StandingEvent → Said → Request → Stage
-request_stage header row clubs events said (Event event) = stage header (open_at clubs (entered row events event))
-request_stage header row clubs events said (Mends mend) = mended_stage header clubs events said mend (edition_reply header.edition events mend)
-request_stage header row clubs events said request = stage header (open_at clubs events)
+abbrev pub request_stage : BoardHeader → ℕ → List NamedClub → List StandingEvent → Request → Stage
+request_stage header row clubs events (Event event) = stage header (open_at clubs (entered row events event))
+request_stage header row clubs events (Mends mend) = mended_stage header clubs events mend (edition_reply header.edition events mend)
+request_stage header row clubs events request = stage header (open_at clubs events)
 
 -- ---- the answer to a line
 
@@ -74,29 +74,29 @@ abbrev pub event_answer : LiveArgs → BoardHeader → ℕ → List NamedClub �
 event_answer options header row clubs events event =
     let reply = sequential_reply (history_in events) event.call in
     let after = board_in (entered row events event) in
-    reply_answer options.format header row clubs event (length events) reply after ++ screen_after options header row clubs reply after
+    reply_answer options.format header.edition row event (length events) reply after ++ screen_after options header row clubs reply after
 
 -- the answer to a mend, by the reply to it; and then the screen, if it is not refused and the options ask for screens
-abbrev pub mend_answer : LiveArgs → BoardHeader → ℕ → List NamedClub → List StandingEvent → Said → Mend → Result ℕ MendRefusal → List ℕ
-mend_answer options header row clubs events said mend (Err refusal) = mend_refused_answer options.format row refusal
-mend_answer options header row clubs events said mend (Ok edition) =
+abbrev pub mend_answer : LiveArgs → BoardHeader → ℕ → List NamedClub → List StandingEvent → Mend → Result ℕ MendRefusal → List ℕ
+mend_answer options header row clubs events mend (Err refusal) = mend_refused_answer options.format row refusal
+mend_answer options header row clubs events mend (Ok edition) =
     let later = record header { edition = edition } in
-    let all = clubs_after clubs said mend in
+    let all = clubs_after clubs mend in
     let stand = events_after events mend in
-    mended_answer options.format row later all (left_out_by events mend) (row_named mend) stand ++ screen_if options later row all (board_in stand)
+    mended_answer options.format row edition (left_out_by events mend) (row_named mend) stand ++ screen_if options later row all (board_in stand)
 
 -- what an open board answers to the request of row number `row`; the answer to a bad row has its text, `shown`
-abbrev pub answer_of : LiveArgs → BoardHeader → ℕ → List NamedClub → List StandingEvent → Said → Request → List ℕ → List ℕ
-answer_of options header row clubs events said (Event event) shown = event_answer options header row clubs events event
-answer_of options header row clubs events said (Bad field) shown = bad_answer options.format row field shown
-answer_of options header row clubs events said Screen shown = screen_answer options.format header row clubs (board_in events)
-answer_of options header row clubs events said Words shown = words_answer options.format row (board_in events)
-answer_of options header row clubs events said Matches shown = matches_answer options.format row clubs (board_in events)
-answer_of options header row clubs events said (Mends mend) shown = mend_answer options header row clubs events said mend (edition_reply header.edition events mend)
+abbrev pub answer_of : LiveArgs → BoardHeader → ℕ → List NamedClub → List StandingEvent → Request → List ℕ → List ℕ
+answer_of options header row clubs events (Event event) shown = event_answer options header row clubs events event
+answer_of options header row clubs events (Bad field) shown = bad_answer options.format row field shown
+answer_of options header row clubs events Screen shown = screen_answer options.format header row clubs (board_in events)
+answer_of options header row clubs events Words shown = words_answer options.format row (board_in events)
+answer_of options header row clubs events Matches shown = matches_answer options.format row clubs (board_in events)
+answer_of options header row clubs events (Mends mend) shown = mend_answer options header row clubs events mend (edition_reply header.edition events mend)
 
 -- what a session in this phase answers to a line: nothing before its board is open, or if it is refused
 abbrev pub answer_at : Session → Reached → Said → List ℕ → List ℕ
-answer_at session (Ok (Open table)) said shown = answer_of session.options session.header session.row table.roster table.events said (request_of said) shown
+answer_at session (Ok (Open table)) said shown = answer_of session.options session.header session.row table.roster table.events (request_of said) shown
 answer_at session reached said shown = []
 
 -- what a session answers to a line: nothing if it is empty, or before the board is open
@@ -114,7 +114,7 @@ first_header header said = if is_group_row said then unwrap_or (header_said said
 abbrev pub next_at : Session → Reached → Said → Stage
 next_at session (Ok AwaitingHeader) said = stage (first_header session.header said) (after_beginning session.options session.row said)
 next_at session (Ok (AwaitingClubs clubs)) said = stage session.header (after_club session.row clubs (club_said (length clubs + 1) said))
-next_at session (Ok (Open table)) said = request_stage session.header session.row table.roster table.events said (request_of said)
+next_at session (Ok (Open table)) said = request_stage session.header session.row table.roster table.events (request_of said)
 next_at session (Err fault) said = stage session.header (Err fault)
 
 -- header and phase of a session after a line; an empty line changes neither

@@ -62,17 +62,17 @@ unfoldable pub events_in : ℕ → List StandingEvent → List (List ℕ) → Li
 events_in row events [] = events
 events_in row events (line ∷ lines) = events_in (row + 1) (entered_by row events (request_of (said_on row line))) lines
 
--- the reply to an event after a history: as text the line that `ucl_night feed` writes, in JSON one with the board after the event
-abbrev pub reply_by_history : Format → BoardHeader → ℕ → List NamedClub → List Entry → NightEvent → List ℕ
-reply_by_history Text header row clubs history event = reply_line row history event.call
-reply_by_history Json header row clubs history event =
-    json_line (reply_value row event (sequential_reply history event.call) header (board_of (after_attempt history (attempt_of event))) clubs)
+-- the reply to an event after a history, in this edition: as text the line that `ucl_night feed` writes, in JSON that of the board after it
+abbrev pub reply_by_history : Format → ℕ → ℕ → List Entry → NightEvent → List ℕ
+reply_by_history Text edition row history event = reply_line row history event.call
+reply_by_history Json edition row history event =
+    json_line (reply_value row event (sequential_reply history event.call) edition (board_of (after_attempt history (attempt_of event))))
 
 -- the answer to a request after a history: for an event its reply, then the screen if the options ask for it; for a bad row that it is bad;
 -- for a request to show the board what it asks for; for a mend nothing
 abbrev pub answer_by_history : LiveArgs → BoardHeader → ℕ → List NamedClub → List Entry → Request → List ℕ → List ℕ
 answer_by_history options header row clubs history (Event event) shown =
-    reply_by_history options.format header row clubs history event
+    reply_by_history options.format header.edition row history event
     ++ screen_after options header row clubs (sequential_reply history event.call) (board_of (after_attempt history (attempt_of event)))
 answer_by_history options header row clubs history (Bad field) shown = bad_answer options.format row field shown
 answer_by_history options header row clubs history Screen shown = screen_answer options.format header row clubs (board_of history)
@@ -128,21 +128,21 @@ SessionsAreSequential = (session : Session) (lines : List (List ℕ)) (clubs : L
 
 -- a session, `old` and then `new`, whose open board had these clubs and events was mended as a row that says `said` asks: it is in a later
 -- edition, with clubs and events as the mend makes them; or, if the mend is refused, as before
-abbrev pub IsMended : Session → Session → List NamedClub → List StandingEvent → Said → Mend → Result ℕ MendRefusal → Type 0
-IsMended old new clubs events said mend (Ok edition) =
-    (new.header ≡ record old.header { edition = edition }) × (new.phase ≡ open_at (clubs_after clubs said mend) (events_after events mend))
-IsMended old new clubs events said mend (Err refusal) = (new.header ≡ old.header) × (new.phase ≡ open_at clubs events)
+abbrev pub IsMended : Session → Session → List NamedClub → List StandingEvent → Mend → Result ℕ MendRefusal → Type 0
+IsMended old new clubs events mend (Ok edition) =
+    (new.header ≡ record old.header { edition = edition }) × (new.phase ≡ open_at (clubs_after clubs mend) (events_after events mend))
+IsMended old new clubs events mend (Err refusal) = (new.header ≡ old.header) × (new.phase ≡ open_at clubs events)
 
 -- theorem: a line that asks for a mend brings an open board to a later edition, with clubs and events as the mend makes them; if it is
 -- refused, nothing changes
 unfoldable pub MendsAreDone : Type 0
 MendsAreDone = (session : Session) (said : Said) (clubs : List NamedClub) (events : List StandingEvent) (mend : Mend) → session.phase ≡ open_at clubs events
-    → request_of said ≡ Mends mend → IsMended session (next session said) clubs events said mend (edition_reply session.header.edition events mend)
+    → request_of said ≡ Mends mend → IsMended session (next session said) clubs events mend (edition_reply session.header.edition events mend)
 
 -- theorem: the reply to an event after a history, as text, is the line that `ucl_night feed` writes for it
 unfoldable pub RepliesAreThoseOfFeed : Type 0
-RepliesAreThoseOfFeed = (header : BoardHeader) (clubs : List NamedClub) (board : List ℕ) (history : List Entry) (row : ℕ) (event : NightEvent)
-    → reply_answer Text header row clubs event (length history) (sequential_reply history event.call) board ≡ reply_line row history event.call
+RepliesAreThoseOfFeed = (edition : ℕ) (board : List ℕ) (history : List Entry) (row : ℕ) (event : NightEvent)
+    → reply_answer Text edition row event (length history) (sequential_reply history event.call) board ≡ reply_line row history event.call
 
 -- theorem: if the format is JSON, the answers are JSON values, each on a line of its own
 unfoldable pub JsonAnswersAreLines : Type 0

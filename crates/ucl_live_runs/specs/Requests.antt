@@ -7,6 +7,7 @@ use Rattle.ucl_live_runs.specs.declared.request.Request.{Request}
 use Rattle.ucl_live_runs.specs.declared.request.Request.TheVariants.{Bad, Event, Matches, Mends, Screen, Words}
 use Rattle.ucl_live_runs.specs.declared.request.Mend.{Mend}
 use Rattle.ucl_live_runs.specs.declared.request.Mend.TheVariants.{As, Club, Without}
+use Rattle.ucl_live_runs.specs.NewClubs.{ClubInSlot, club_for}
 use Rattle.ucl_order.specs.Roster.{NamedClub, is_club}
 use Rattle.ucl_screen.specs.Script.{club_of}
 use Rattle.ucl_order.specs.Names.{profile_named}
@@ -42,19 +43,16 @@ named_row text = in_range 1 4294967295 (number 10 text)
 abbrev pub edition_by : List ℕ → Option ℕ
 edition_by text = in_range 0 65535 (number 5 text)
 
--- whether there is a club, and a roster takes it
-abbrev pub is_good : Option NamedClub → Bool
-is_good None = false
-is_good (Some club) = is_club club
+-- this club for this slot, if a roster takes it; else None
+abbrev pub if_club : ℕ → NamedClub → Option ClubInSlot
+if_club slot club = if is_club club then Some (club_for slot club) else None
 
--- whether there is a slot, and a row names a club for it that a roster takes
-abbrev pub names_good : FourFields → Option ℕ → Bool
-names_good fields None = false
-names_good fields (Some slot) = is_good (club_of slot fields)
-
--- whether a row names a slot and a club that a roster takes
-abbrev pub names_club : FourFields → Bool
-names_club fields = names_good fields (slot_in fields.second)
+-- the club that a row names, for the slot that it names; None if it names none, or one that no roster takes
+abbrev pub new_club : FourFields → Option ClubInSlot
+new_club fields = do
+  slot ← slot_in fields.second
+  club ← club_of slot fields
+  if_club slot club
 
 -- the mend of a row whose first field is `mend` and whose last is empty: of a row, or to an edition; None if it names neither, or both
 abbrev pub named_mend : FourFields → Option Mend
@@ -65,7 +63,7 @@ named_mend fields =
 -- the mend that a row of four fields names; None if it names none
 abbrev pub mend_by : FourFields → Option Mend
 mend_by fields =
-    if bytes_eq fields.first (codes "club") then (if names_club fields then Some Club else None)
+    if bytes_eq fields.first (codes "club") then option_map Club (new_club fields)
     else (if bytes_eq fields.first (codes "mend") && (length fields.fourth == 0) then named_mend fields else None)
 
 -- the request to do this mend; for None, which is a row that names no mend, `Bad` with the first wrong field

@@ -1,17 +1,18 @@
 //! What `ucl_follow` does for its arguments.
 
-ghost use Rattle.std.specs.Prelude.{◌≡◌};
-ghost use Rattle.ucl_screen.specs.Screen.{IsGroup};
+ghost use Rattle.std.specs.Prelude.{◌≡◌, Err, IfOk, MatchResult, Result, map, string_bytes};
+ghost use Rattle.ucl_command.specs.Commands.{AsksFollow};
+ghost use Rattle.ucl_command.specs.declared.fault.LineFault.{LineFault};
+ghost use Rattle.ucl_command.specs.declared.follow.FollowArgs.{FollowArgs};
 ghost use Rattle.ucl_rows.specs.Ending.{ended_with};
-ghost use Rattle.ucl_live_runs.specs.FollowerRuns.{EndsFollowing, RunsFollowing, counts_line, other_line};
+ghost use Rattle.ucl_live_runs.specs.FollowerRuns.{EndsFollowing, RunsFollowing, counts_line};
 
 use crate::follower::{FollowSummary, Follower, follow_run};
 use arrayvec::ArrayString;
 use itoa::Buffer;
 use std::alloc::Global;
-use ucl_command::{FollowArgs, LineFault};
+use ucl_command::{FollowArgs, LineFault, follow_args};
 use ucl_io::{LoggedIo, ServeFault};
-use ucl_json::BoardHeader;
 use ucl_rows::{RunFault, exit_without_command, of_driver, print_fault, put_text};
 use ucl_screen::{Sink, Source};
 
@@ -28,22 +29,6 @@ fn counts_line(followed: FollowSummary) -> ArrayString<128>
     line.push_str(Buffer::new().format(others));
     line.push_str(" passed over\n");
     line
-}
-
-/// Returns the text which reports that line number `line` is passed over because it has the group and the tie-break order of `header`.
-pub(crate) fn other_line(line: u64, header: BoardHeader) -> ArrayString<128>
-    requires { IsGroup header.group }
-    ensures { result.bytes ≡ other_line line header }
-{
-    let mut text = ArrayString::new();
-    text.push_str("line ");
-    text.push_str(Buffer::new().format(line));
-    text.push_str(": group ");
-    text.push(char::from(header.group));
-    text.push_str(", order ");
-    text.push_str(header.profile.name());
-    text.push_str(", is passed over\n");
-    text
 }
 
 /// Prints the counts of a run that ended well, or the fault of one that failed, and returns the exit status: 0, or that of the fault.
@@ -81,4 +66,26 @@ pub fn run_following<S: Source, W: Sink, T: Sink + Drop, E: Sink>(
         }
         Err(fault) => exit_without_command(&mut logged_io.sink, errors, fault),
     }
+}
+
+/// Runs `ucl_follow` for the words of its command line, `words`, or for why they could not be read, as `run_following` does for its
+/// arguments.
+pub fn run_follow<S: Source, W: Sink, T: Sink + Drop, E: Sink>(
+    alloc: Global,
+    words: Result<Vec<String>, LineFault>,
+    others: T,
+    logged_io: &mut LoggedIo<S, W, Follower<T>>,
+    errors: &mut E,
+) -> u8
+    ensures { (asked : Result FollowArgs LineFault)
+        × MatchResult words (λ found. IfOk asked (AsksFollow (map string_bytes found.items)))
+        (λ fault. asked ≡ Err fault)
+        × RunsFollowing S.Source W.Sink asked logged_io.old logged_io.new
+        (ended_with E.failed E.taken result errors.old errors.new) }
+{
+    let asked = match words {
+        Ok(words) => follow_args(alloc, &words),
+        Err(fault) => Err(fault),
+    };
+    run_following(alloc, asked, others, logged_io, errors)
 }

@@ -1,7 +1,10 @@
 //! Theorems on what a follower (`ucl_follow`) shows. The functions do nothing: each is there for its contract.
 #![tactic(auto, using(crate::proofs::Theorems::follow_theorems))]
 
-ghost use Rattle.ucl_live_runs.specs.Follow.{AnswersNeverFall, AnswersTellTheirBoardState, FollowersEndWithTheBoard, LatestIsShownLast, LinesTellTheirBoardState, MatchesFitTheirLine, OthersDoNotMatter, RepeatedRowsChangeNothing, SameRowsSameTable, ShownVersionsRise};
+ghost use Rattle.ucl_live_runs.specs.Follow.{AnswersFitTheirLines, AnswersNeverFall, FollowersEndWithTheBoard, LatestIsShownLast, LinesTellTheirBoardState, OthersDoNotMatter, RepeatedRowsChangeNothing, ScreensTellTheirBoardState, ShownVersionsRise};
+ghost use Rattle.ucl_live_runs.specs.Moments.{EveryTableIsOneMoment, MixturesAreRefused, OlderMomentsAreRefused, RunsShowMoments};
+
+use ucl_screen::{Sink, Source};
 
 /// States that each board state that is shown is carried by a line and newer than all before, and that the text is that of their screens.
 pub fn versions_rise()
@@ -14,24 +17,23 @@ pub fn latest_is_shown_last()
     ensures { LatestIsShownLast }
 {}
 
-/// States that the JSON value of the answer to an accepted event or to a mend, or of a screen, parses to just the board state that it was
-/// made from.
-pub fn answers_tell_their_board_state()
-    ensures { AnswersTellTheirBoardState }
+/// States that the JSON value of a screen parses to just the board state that it was made from.
+pub fn screens_tell_their_board_state()
+    ensures { ScreensTellTheirBoardState }
 {}
 
-/// States that the JSON line of the answer to an accepted event or to a mend, or of a screen, parses to the board state that it was made
-/// from: it has at most the 4,096 bytes that a follower reads of a line.
+/// States that the JSON line of a screen parses to the board state that it was made from.
 pub fn lines_tell_their_board_state()
     ensures { LinesTellTheirBoardState }
 {}
 
-/// States that the JSON line that shows the twelve matches of a board has at most 4,096 bytes.
-pub fn matches_fit_their_line()
-    ensures { MatchesFitTheirLine }
+/// States that each line of the answers to a record in JSON has at most the 4,096 bytes that a follower reads of a line.
+pub fn answers_fit_their_lines()
+    ensures { AnswersFitTheirLines }
 {}
 
-/// States that the latest board state of some lines is shown last also if they come reordered, repeated or in part, but one carries it.
+/// States that the latest board state of some lines is shown last also of others, if these carry no other board state, but this one: so they
+/// may be the same lines reordered, repeated or in part.
 pub fn others_do_not_matter()
     ensures { OthersDoNotMatter }
 {}
@@ -48,13 +50,34 @@ pub fn answers_never_fall()
     ensures { AnswersNeverFall }
 {}
 
-/// States that the board state at the end of a record, after all its mends, is the latest that its answers carry, if they carry any.
+/// States that the board state at the end of a record, after all its mends, is the latest that its answers carry, if they carry it, or, with
+/// `--screens`, any.
 pub fn followers_end_with_the_board()
     ensures { FollowersEndWithTheBoard }
 {}
 
-/// States that the last table that a follower shows is that of the board at the end of a record, if its lines are answers to the record, in
-/// any order and any number of times, and one of them carries the board state at the end.
-pub fn same_rows_same_table()
-    ensures { SameRowsSameTable }
+/// States that each table that a follower shows is that of one moment of a record, if its lines are answers to the record, in any order and
+/// any number of times: the board after some of the record's lines, with all mends so far, and each after more of them than the one before.
+/// The last is that of the board at the end of the record, if one of the lines carries it.
+pub fn every_table_is_one_moment()
+    ensures { EveryTableIsOneMoment }
+{}
+
+/// States that all that a run of `ucl_follow` writes are tables of moments of a record, if it ends well and reads lines that a run of
+/// `ucl_live` wrote for the record in JSON, and which ended well, in any order and any number of times: whatever the sources and sinks of
+/// both are.
+pub fn runs_show_moments<S: Source, W: Sink, F: Source, O: Sink, T: Sink>()
+    ensures { RunsShowMoments S.Source W.Sink F.Source O.Sink T.Sink }
+{}
+
+/// States that a follower that shows an older board state after a newer one shows no moments of a record, as `every_table_is_one_moment`
+/// says it.
+pub fn older_moments_are_refused()
+    ensures { OlderMomentsAreRefused }
+{}
+
+/// States, by a record that kicks off match 1 and then match 7, that a follower that shows matches 1 to 6 of one moment and matches 7 to 12
+/// of another shows no moments of the record.
+pub fn mixtures_are_refused()
+    ensures { MixturesAreRefused }
 {}

@@ -1,22 +1,22 @@
 //! A follower (`ucl_follow`): it reads lines, and shows each board state that is newer than all before.
 
-ghost use Rattle.std.specs.Prelude.{◌≡◌, ◌<◌, ◌≤◌, ⊤, [], length, IfOk};
+ghost use Rattle.std.specs.Prelude.{◌≡◌, ◌≤◌, ⊤, [], false, length, replicate, IfOk};
 ghost use Rattle.ucl_rows.specs.declared.fault.RunFault.TheVariants.{OutOfMemory};
 ghost use Rattle.ucl_screen.specs.Screen.{IsGroup};
 ghost use Rattle.ucl_rows.specs.Answers.{bytes_of};
 ghost use Rattle.ucl_live_runs.specs.Follow.{is_later, is_newer, line_output, output_text, unseen};
-ghost use Rattle.ucl_live_runs.specs.FollowerRuns.{IsHandled, follow_state_of, shape_of, follow_due, Reports, report_place, unreported};
+ghost use Rattle.ucl_live_runs.specs.FollowerRuns.{IsHandled, follow_state_of, shape_of, follow_due};
 ghost use Rattle.ucl_json.specs.BoardLines.{parse_board_line};
 ghost use Rattle.ucl_live_runs.specs.Driven.{IsDriven};
 
-use crate::follow_program::other_line;
 use crate::header::is_asked;
+use crate::passed_over::report_once;
 use std::alloc::Global;
 use ucl_command::{FollowArgs, FollowShape, Format};
 use ucl_io::{LineHandler, LoggedIo, MAX_KEPT_BYTES, ServeFault, serve_lines};
-use ucl_json::{BoardHeader, BoardState, parse_board_line};
+use ucl_json::{BoardState, parse_board_line};
 use ucl_order::Profile;
-use ucl_rows::{Answer, RunFault, matches_answer, put_text, screen_text};
+use ucl_rows::{Answer, RunFault, matches_answer, screen_text};
 use ucl_screen::{Sink, Source};
 use ucl_word::OutOfMemory;
 
@@ -46,34 +46,6 @@ fn show(
     }
 }
 
-/// Returns the index, below 16, of a header's group and tie-break order: groups A to H under `uefa`, then under `away-in-tie`.
-fn report_place(header: BoardHeader) -> usize
-    requires { IsGroup header.group }
-    ensures place { result ≡ report_place header.group header.profile }
-    ensures within { result < 16 }
-{
-    let place = usize::from(header.group - b'A');
-    match header.profile {
-        Profile::Uefa => place,
-        Profile::AwayInTie => place + 8,
-    }
-}
-
-/// Reports to `others` that line `row` is passed over for its header, once for each group and tie-break order, as `reported` marks.
-fn report_once<T: Sink>(reported: &mut [bool; 16], others: &mut T, row: u64, header: BoardHeader)
-    requires { IsGroup header.group }
-    ensures { Reports T.Sink row (unreported reported.old header)
-        reported.old others.old reported.new others.new }
-{
-    let place = report_place(header);
-    if reported[place] {
-        return;
-    }
-    reported[place] = true;
-    let line = other_line(row, header);
-    let _ = put_text(others, line.as_str().as_bytes());
-}
-
 /// A follower between two lines: the form in which it shows board states, what it has followed, and the sink `others`, which gets a line
 /// for each group and tie-break order that is passed over, once: `reported` marks them.
 #[derive(Drop)]
@@ -90,6 +62,7 @@ impl<T> Follower<T> {
     pub(crate) fn new(alloc: Global, args: FollowArgs, others: T) -> Follower<T>
         ensures follow_state { follow_state_of result ≡ unseen args }
         ensures shape { shape_of result ≡ args.shape }
+        ensures reported { result.reported ≡ replicate 16 false }
     {
         Follower {
             alloc,
@@ -204,12 +177,12 @@ pub struct FollowSummary {
 }
 
 /// Follows the lines of a source until it ends: shows each board state that is newer than all before at once, before it asks for more, and
-/// passes over each other line.
+/// passes over each other line. No clause says that `others` gets nothing before the first line or after the last.
 ///
 /// The group and the tie-break order are those that `args` asks for, else those of the first board state. A board state of another group or
 /// order is passed over, and the sink `others` gets a line for each such pair, at once. A line carries a board state if it is JSON of at
-/// most 4,096 bytes whose members `group`, `order`, `clubs` and `words` are those of a board: each answer of a session to an accepted
-/// event, and each screen. Memory is taken for one line at a time, and none is kept.
+/// most 4,096 bytes whose members `group`, `order`, `clubs` and `words` are those of a board: each screen of a session. Memory is taken for
+/// one line at a time, and none is kept.
 ///
 /// # Errors
 ///

@@ -2,6 +2,7 @@
 #![tactic(auto, using(crate::proofs::Theorems::live_theorems))]
 
 ghost use Rattle.ucl_live_runs.specs.LiveTheorems.{BeginningsAreAnswered, BoardsTakeEvents, SessionsAreSequential, JsonAnswersAreLines, LinesAreReadWhole, MendsAreDone, RefusedSessionsAreSilent, RepliesAreThoseOfFeed};
+ghost use Rattle.ucl_live_runs.specs.Moments.{SessionsShowMoments};
 
 /// States that the answers to an input that is cut after a line feed are those to its first part, then those to the rest, from the session
 /// that the first part leads to.
@@ -27,7 +28,8 @@ pub fn mends_are_done()
     ensures { MendsAreDone }
 {}
 
-/// States that, if the format is JSON, the answers are JSON values, each on a line of its own.
+/// States that, if the format is JSON, the answers are JSON values, each on a line of its own. That their members say what the text says is
+/// tested, not proved.
 pub fn json_answers_are_lines()
     ensures { JsonAnswersAreLines }
 {}
@@ -45,4 +47,10 @@ pub fn replies_are_those_of_feed()
 /// States that a session that is refused, for the rows that name its group and its clubs, has answered nothing.
 pub fn refused_sessions_are_silent()
     ensures { RefusedSessionsAreSilent }
+{}
+
+/// States that a session with `--screens`, as text or in JSON, shows the moments of its record, also when it mends: behind the answer to each
+/// accepted event and to each mend the table of the moment after it, and no other. The events that stand at each moment are a legal history.
+pub fn sessions_show_moments()
+    ensures { SessionsShowMoments }
 {}

@@ -1,59 +1,32 @@
 //! The answers to mends, as text or as lines of JSON.
 
-ghost use Rattle.std.specs.Prelude.{◌≡◌, [], IfOk};
+ghost use Rattle.std.specs.Prelude.{◌≡◌, IfErr, IfOk, string_bytes};
+ghost use Rattle.ucl_command.specs.declared.options.Format.TheVariants.{Json};
 ghost use Rattle.ucl_rows.specs.Answers.{bytes_of};
-ghost use Rattle.ucl_mends.specs.Mended.{left_out};
-ghost use Rattle.ucl_live_runs.specs.Mends.{HoldsLeftOut, mend_refused_answer, mended_line};
+ghost use Rattle.ucl_live_runs.specs.Mends.{left_out_lines, mend_refused_answer, mended_line};
 
 use arrayvec::ArrayString;
 use itoa::Buffer;
 use std::alloc::{AllocError, Global};
 use ucl_command::Format;
 use ucl_json::{left_out_json, mend_refused_json};
-use ucl_mends::{MendRefusal, StandingEvents};
+use ucl_mends::{LeftOut, MendRefusal};
 use ucl_rows::{Answer, ReplyLine};
 
-/// The events that a mend leaves out, as lines of JSON, and how many they are.
-#[derive(Drop)]
-pub(crate) struct LeftOutLines {
-    pub(crate) text: String,
-    pub(crate) count: u16,
-}
-
-impl LeftOutLines {
-    /// Creates the lines of a mend that leaves no event out.
-    pub(crate) fn none(alloc: Global) -> LeftOutLines
-        ensures { HoldsLeftOut result [] }
-    {
-        LeftOutLines {
-            text: String::new(alloc),
-            count: 0,
-        }
+/// Returns the events that a mend leaves out, as lines of JSON.
+///
+/// # Errors
+///
+/// If there is no memory.
+pub(crate) fn left_out_lines(alloc: Global, left: &[LeftOut]) -> Result<String, AllocError>
+    ensures { IfOk result (λ text. string_bytes text ≡ left_out_lines left.now) }
+{
+    let mut text = String::new(alloc);
+    for out in left {
+        let line = left_out_json(alloc, out.event.row, &out.event.entry, out.refusal)?;
+        text.push_str(line.as_str())?;
     }
-
-    /// Writes the events that a mend which names this row leaves out.
-    ///
-    /// # Errors
-    ///
-    /// If there is no memory.
-    pub(crate) fn of(
-        alloc: Global,
-        events: &StandingEvents,
-        row: u32,
-    ) -> Result<LeftOutLines, AllocError>
-        ensures { IfOk result (λ lines. HoldsLeftOut lines (left_out row events.now)) }
-    {
-        let mut text = String::new(alloc);
-        let mut count = 0;
-        // For the prover only: there are fewer events than 16 bits count.
-        let _most = events.version();
-        for left in events.left_out(row) {
-            let line = left_out_json(alloc, left.event.row, &left.event.entry, left.refusal)?;
-            text.push_str(line.as_str())?;
-            count += 1;
-        }
-        Ok(LeftOutLines { text, count })
-    }
+    Ok(text)
 }
 
 /// Returns the line of text that answers a mend: ROW mended EDITION VERSION.
@@ -74,14 +47,15 @@ pub(crate) fn mended_line(row: u64, edition: u16, version: u16) -> ReplyLine
 ///
 /// # Errors
 ///
-/// If there is no memory for an answer in JSON.
+/// If there is no memory. As text, the answer needs none.
 pub(crate) fn mend_refused_answer(
     alloc: Global,
     format: Format,
     row: u64,
     refusal: MendRefusal,
 ) -> Result<Answer, AllocError>
-    ensures { IfOk result (λ answer. bytes_of answer ≡ mend_refused_answer format row refusal) }
+    ensures text { IfOk result (λ answer. bytes_of answer ≡ mend_refused_answer format row refusal) }
+    ensures memory { IfErr result (λ _. format ≡ Json) }
 {
     match format {
         Format::Text => {

@@ -1,31 +1,30 @@
 //! The board of a session whose four clubs are named, and what it answers to a row: the row enters an event, asks to show the board, or
 //! mends it.
 
-ghost use Rattle.std.specs.Prelude.{◌≡◌, ◌+◌, ◌++◌, if◌then◌else◌, [], List, IfOk, IsOk, OnOk, string_bytes};
-ghost use Rattle.ucl_mends.specs.declared.standing.LeftOut.{LeftOut};
+ghost use Rattle.std.specs.Prelude.{◌≡◌, ◌⊎◌, ◌+◌, ◌≤◌, ◌++◌, if◌then◌else◌, [], IfErr, IfOk, Ok, OnOk, length, string_bytes, true};
+ghost use Rattle.ucl_command.specs.declared.options.Format.TheVariants.{Json};
 ghost use Rattle.ucl_screen.specs.Screen.{IsGroup};
 ghost use Rattle.ucl_rows.specs.Answers.{bytes_of};
 ghost use Rattle.ucl_rows.specs.BadRows.{shown_text};
 ghost use Rattle.ucl_rows.specs.Rows.{fields_seen};
-ghost use Rattle.ucl_live_runs.specs.SessionRuns.{session_at};
+ghost use Rattle.ucl_live_runs.specs.SessionRuns.{MendNeedsMemory, RequestNeedsMemory, RowNeedsMemory, session_at};
 ghost use Rattle.ucl_live_runs.specs.LiveText.{answer_said, mend_answer, mended_stage, next, screen_if, stage};
-ghost use Rattle.ucl_live_runs.specs.Mends.{HoldsLeftOut, board_in, clubs_after, edition_after, edition_reply, events_after, left_out_by, mended_answer, row_named};
+ghost use Rattle.ucl_live_runs.specs.Mends.{board_in, clubs_after, edition_after, edition_reply, events_after, left_by_format, mended_answer, row_named};
 ghost use Rattle.ucl_live_runs.specs.Phases.{open_at};
 ghost use Rattle.ucl_mends.specs.declared.mend_refusal.MendRefusal.{MendRefusal};
 ghost use Rattle.ucl_live_runs.specs.declared.phase.Phase.TheVariants.{Open};
+ghost use Rattle.ucl_live_runs.specs.declared.request.Request.TheVariants.{Mends};
 
-use crate::clubs::put_club;
 use crate::config::{Config, Line};
 use crate::header::HeaderState;
-use crate::mend_answer::{LeftOutLines, mend_refused_answer, mended_line};
+use crate::mend_answer::{left_out_lines, mend_refused_answer, mended_line};
 use crate::request::{Mend, Request, request_of};
 use ucl_command::Format;
 use ucl_json::{BoardHeader, EventReply, MendReply, mended_json};
-use ucl_mends::{MendRefusal, StandingEvents};
+use ucl_mends::{LeftOut, MendRefusal, StandingEvents};
 use ucl_order::Roster;
 use ucl_rows::{
-    Answer, RowFields, bad_answer, line_answer, matches_answer, reply_answer, screen_text,
-    words_answer,
+    Answer, bad_answer, line_answer, matches_answer, reply_answer, screen_text, words_answer,
 };
 use ucl_word::OutOfMemory;
 
@@ -48,48 +47,38 @@ fn edition_after(edition: u16) -> Result<u16, MendRefusal>
 
 impl OpenBoard {
     /// Returns the edition after a mend, or why it is refused.
-    fn mend_reply(&self, edition: u16, mend: Mend) -> Result<u16, MendRefusal>
-        ensures { result ≡ edition_reply edition self.now.events mend }
+    fn mend_reply(&self, edition: u16, mend: &Mend<'_>) -> Result<u16, MendRefusal>
+        ensures { result ≡ edition_reply edition self.now.events mend.now }
     {
         match mend {
-            Mend::Without(row) => self.events.mend_reply(edition, row),
-            Mend::As(later) if edition < later => Ok(later),
+            Mend::Without(row) => self.events.mend_reply(edition, *row),
+            Mend::As(later) if edition < *later => Ok(*later),
             Mend::As(_) => Err(MendRefusal::LastEdition),
-            Mend::Club => edition_after(edition),
+            Mend::Club(_) => edition_after(edition),
         }
     }
 
-    /// Returns the events that a mend leaves out, as lines of JSON; none as text. Fails only if out of memory.
-    fn left_out(&self, config: &Config, mend: Mend) -> Result<LeftOutLines, OutOfMemory>
-        ensures { IfOk result (λ lines. config.now.options.format ≡ Format.Json
-            → HoldsLeftOut lines (left_out_by self.now.events mend)) }
+    /// Does a mend that is not refused, and returns the events that it leaves out, if the answers are in JSON; else none. Fails only if out
+    /// of memory.
+    fn change(&mut self, config: &Config, mend: &Mend<'_>) -> Result<Vec<LeftOut>, OutOfMemory>
+        ensures done { OnOk result (self.new ≡ record self.old {
+          roster = clubs_after self.old.roster mend.now;
+          events = events_after self.old.events mend.now;
+        }) }
+        ensures left { IfOk result (λ left. left.items ≡ left_by_format config.now.options.format self.old.events mend.now) }
+        ensures few { IfOk result (λ left. length left.items ≤ 49140) }
+        ensures memory { IfErr result (λ _. MendNeedsMemory config.now.options mend.now) }
     {
-        match (config.options.format, mend) {
-            (Format::Json, Mend::Without(row)) => {
-                Ok(LeftOutLines::of(config.alloc, &self.events, row)?)
-            }
-            _ => Ok(LeftOutLines::none(config.alloc)),
-        }
-    }
-
-    /// Does a mend that is not refused: takes back the event of a row, or puts the club that `said` names in its slot, or changes nothing,
-    /// if it only sets the edition.
-    fn change(&mut self, edition: u16, mend: Mend, said: &RowFields<'_>)
-        requires { IsOk (edition_reply edition self.old.events mend) }
-        ensures { self.new ≡ record self.old {
-          roster = clubs_after self.old.roster (fields_seen said.now) mend;
-          events = events_after self.old.events mend;
-        } }
-    {
+        let alloc = config.alloc;
         match mend {
             Mend::Without(row) => {
-                let _ = self.events.mend(edition, row);
+                let listed = matches!(config.options.format, Format::Json);
+                Ok(self.events.mend(alloc, *row, listed)?)
             }
-            Mend::As(_) => {}
-            Mend::Club => {
-                if let RowFields::Four(four) = said {
-                    put_club(&mut self.roster, four);
-                }
+            Mend::As(_) => Ok(Vec::new(alloc)),
+            Mend::Club(club) => {
+                club.put(&mut self.roster);
+                Ok(Vec::new(alloc))
             }
         }
     }
@@ -103,7 +92,8 @@ impl OpenBoard {
         wanted: bool,
     ) -> Result<String, OutOfMemory>
         requires { IsGroup header.group }
-        ensures { IfOk result (λ text. string_bytes text
+        ensures memory { IfErr result (λ _. (config.now.options.screens ≡ true) × (wanted ≡ true)) }
+        ensures text { IfOk result (λ text. string_bytes text
             ≡ (if wanted then screen_if config.now.options header row self.now.roster (board_in self.now.events) else [])) }
     {
         if !wanted || !config.options.screens {
@@ -125,12 +115,14 @@ impl OpenBoard {
         config: &Config,
         header: BoardHeader,
         row: u64,
-        mend: Mend,
-        left_out: LeftOutLines,
+        mend: &Mend<'_>,
+        left: &[LeftOut],
     ) -> Result<Answer, OutOfMemory>
-        requires { IsGroup header.group }
-        ensures { (left : List LeftOut) → (config.now.options.format ≡ Format.Json → HoldsLeftOut left_out left) → IfOk result (λ answer. bytes_of answer
-            ≡ mended_answer config.now.options.format row header self.now.roster left (row_named mend) self.now.events
+        requires letter { IsGroup header.group }
+        requires few { length left.now ≤ 49140 }
+        ensures memory { IfErr result (λ _. (config.now.options.format ≡ Json) ⊎ (config.now.options.screens ≡ true)) }
+        ensures text { IfOk result (λ answer. bytes_of answer
+            ≡ mended_answer config.now.options.format row header.edition left.now (row_named mend.now) self.now.events
             ++ screen_if config.now.options header row self.now.roster (board_in self.now.events)) }
     {
         let screen = self.screen_after(config, header, row, true)?;
@@ -140,18 +132,16 @@ impl OpenBoard {
                 Ok(line_answer(config.alloc, line, screen.as_str())?)
             }
             Format::Json => {
-                let LeftOutLines { text, count } = left_out;
-                let mut text = text;
+                let mut text = left_out_lines(config.alloc, left)?;
                 let reply = MendReply {
                     row,
                     without: match mend {
-                        Mend::Without(named) => Some(named),
+                        Mend::Without(named) => Some(*named),
                         _ => None,
                     },
-                    left_out: count,
-                    header,
-                    board: self.events.board(),
-                    roster: &self.roster,
+                    left_out: left.len() as u16,
+                    version: self.events.version(),
+                    edition: header.edition,
                 };
                 text.push_str(mended_json(config.alloc, &reply)?.as_str())?;
                 text.push_str(screen.as_str())?;
@@ -165,31 +155,31 @@ impl OpenBoard {
         &mut self,
         config: &Config,
         heading: &mut HeaderState,
-        line: &Line<'_, '_>,
-        mend: Mend,
+        row: u64,
+        mend: &Mend<'_>,
     ) -> Result<Answer, OutOfMemory>
-        ensures header { OnOk result (heading.new.header ≡ (mended_stage heading.old.header self.old.roster self.old.events (fields_seen line.now.said) mend
-            (edition_reply heading.old.header.edition self.old.events mend)).header) }
-        ensures board { OnOk result (open_at self.new.roster self.new.events ≡ (mended_stage heading.old.header self.old.roster self.old.events (fields_seen line.now.said) mend
-            (edition_reply heading.old.header.edition self.old.events mend)).phase) }
-        ensures text { IfOk result (λ answer. bytes_of answer ≡ mend_answer config.now.options heading.old.header line.now.row self.old.roster self.old.events
-            (fields_seen line.now.said) mend (edition_reply heading.old.header.edition self.old.events mend)) }
+        ensures header { OnOk result (heading.new.header ≡ (mended_stage heading.old.header self.old.roster self.old.events mend.now
+            (edition_reply heading.old.header.edition self.old.events mend.now)).header) }
+        ensures board { OnOk result (open_at self.new.roster self.new.events ≡ (mended_stage heading.old.header self.old.roster self.old.events mend.now
+            (edition_reply heading.old.header.edition self.old.events mend.now)).phase) }
+        ensures text { IfOk result (λ answer. bytes_of answer ≡ mend_answer config.now.options heading.old.header row self.old.roster self.old.events
+            mend.now (edition_reply heading.old.header.edition self.old.events mend.now)) }
+        ensures memory { IfErr result (λ _. (config.now.options.format ≡ Json)
+            ⊎ RequestNeedsMemory config.now.options heading.old.header self.old.events (Mends mend.now)) }
     {
-        let edition = heading.header.edition;
-        match self.mend_reply(edition, mend) {
+        match self.mend_reply(heading.header.edition, mend) {
             Err(refusal) => Ok(mend_refused_answer(
                 config.alloc,
                 config.options.format,
-                line.row,
+                row,
                 refusal,
             )?),
             Ok(later) => {
-                let left_out = self.left_out(config, mend)?;
-                self.change(edition, mend, &line.said);
+                let left = self.change(config, mend)?;
                 let mut header = heading.header;
                 header.edition = later;
                 *heading = HeaderState { header };
-                self.mended_answer(config, header, line.row, mend, left_out)
+                self.mended_answer(config, header, row, mend, &left)
             }
         }
     }
@@ -207,6 +197,8 @@ impl OpenBoard {
         ensures text { OnOk result (bytes_of answer.new
             ≡ answer_said (session_at config.now.options heading.old line.now.row (Open self.old))
             (fields_seen line.now.said) (shown_text line.now.text.now)) }
+        ensures memory { IfErr result (λ _. RowNeedsMemory (session_at config.now.options heading.old line.now.row (Open self.old))
+            (Ok (Open self.old)) (fields_seen line.now.said)) }
     {
         let alloc = config.alloc;
         let format = config.options.format;
@@ -221,9 +213,8 @@ impl OpenBoard {
                     row,
                     event: &event,
                     outcome,
-                    header,
+                    edition: header.edition,
                     board: self.events.board(),
-                    roster: &self.roster,
                 };
                 reply_answer(alloc, format, before, &reply, screen.as_str())?
             }
@@ -240,7 +231,7 @@ impl OpenBoard {
                 matches_answer(alloc, format, row, self.events.board(), &self.roster)?
             }
             Request::Words => words_answer(alloc, format, row, self.events.board())?,
-            Request::Mends(mend) => self.mend(config, heading, line, mend)?,
+            Request::Mends(mend) => self.mend(config, heading, row, &mend)?,
         };
         Ok(())
     }

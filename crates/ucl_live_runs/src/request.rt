@@ -2,31 +2,29 @@
 //! mend: of a row (`mend,17,,`), of the edition (`mend,,15,`), or of a club (`club,2,Bravo,95000`).
 
 ghost use Rattle.std.specs.Prelude.{◌≡◌};
-ghost use Rattle.ucl_order.specs.Roster.{club_lent, is_club};
 ghost use Rattle.ucl_screen.specs.Numbers.{number};
 ghost use Rattle.ucl_screen.specs.Rows.{four_seen};
-ghost use Rattle.ucl_live_runs.specs.Requests.{asked_by, mend_by, names_club, request_of, named_row};
+ghost use Rattle.ucl_live_runs.specs.Requests.{asked_by, mend_by, request_of, named_row};
 ghost use Rattle.ucl_rows.specs.Rows.{fields_seen};
 
-use crate::clubs::slot_in;
-use ucl_order::{LentClub, Roster};
+use crate::clubs::NewClub;
 use ucl_rows::{BadField, RowFields, bad_field};
-use ucl_screen::{Four, NightEvent, event_of_fields, expected_of_field, lent_club};
+use ucl_screen::{Four, NightEvent, event_of_fields, expected_of_field};
 
 /// What a mend does. The edition rises with it.
-#[derive(Clone, Copy, Debug, PartialEq, Eq)]
-pub enum Mend {
+#[derive(Drop)]
+pub enum Mend<'f> {
     /// The board becomes that of the events that stand without the one of this row.
     Without(u32),
     /// The board stays, in this edition.
     As(u16),
-    /// The club that the row names takes its slot, and the board stays.
-    Club,
+    /// This club takes its slot, and the board stays.
+    Club(NewClub<'f>),
 }
 
 /// What a row asks for, once the board is open.
-#[derive(Clone, Copy, Debug, PartialEq, Eq)]
-pub enum Request {
+#[derive(Drop)]
+pub enum Request<'f> {
     /// Nothing that there is: this is the first field that no row of an event can have.
     Bad(BadField),
     /// To enter this event, with its reporter.
@@ -38,7 +36,7 @@ pub enum Request {
     /// To show the twelve matches of the board.
     Matches,
     /// To mend the board.
-    Mends(Mend),
+    Mends(Mend<'f>),
 }
 
 /// Returns the number that at most ten decimal digits spell, of which there is at least one; else None.
@@ -69,35 +67,14 @@ fn named_row(text: &[u8]) -> Option<u32>
     Some(row as u32)
 }
 
-/// Returns whether a row names a slot and a club that a roster takes.
-fn names_club(four: &Four<'_>) -> bool
-    ensures { result ≡ names_club (four_seen four.now) }
-{
-    let Some(slot) = slot_in(four.second) else {
-        return false;
-    };
-    match lent_club(slot, four) {
-        None => false,
-        Some(club) => is_good(&club),
-    }
-}
-
-/// Returns whether a roster takes a club.
-fn is_good(club: &LentClub<'_>) -> bool
-    ensures { result ≡ is_club (club_lent club.now) }
-{
-    Roster::of_lent(&[*club, *club, *club, *club]).is_ok()
-}
-
 /// Returns the mend that a row of four fields names; None if it names none.
-fn mend_by(four: &Four<'_>) -> Option<Mend>
+fn mend_by<'f>(four: &Four<'f>) -> Option<Mend<'f>>
     ensures { result ≡ mend_by (four_seen four.now) }
 {
     if four.first == b"club".as_slice() {
-        return if names_club(four) {
-            Some(Mend::Club)
-        } else {
-            None
+        return match NewClub::of(four) {
+            Some(club) => Some(Mend::Club(club)),
+            None => None,
         };
     }
     if four.first != b"mend".as_slice() || !four.fourth.is_empty() {
@@ -114,7 +91,7 @@ fn mend_by(four: &Four<'_>) -> Option<Mend>
 
 /// Returns what a row of four fields asks for; `Bad` with the first wrong field if it asks for nothing that there is.
 #[tactic(auto, unfolding(crate::specs::Requests::asked_by))]
-fn asked_by(four: &Four<'_>) -> Request
+fn asked_by<'f>(four: &Four<'f>) -> Request<'f>
     ensures { result ≡ asked_by (four_seen four.now) }
 {
     if four.second.is_empty() && four.third.is_empty() && four.fourth.is_empty() {
@@ -138,7 +115,7 @@ fn asked_by(four: &Four<'_>) -> Request
 }
 
 /// Returns what a row asks for; `Bad` if it has not four fields, or asks for nothing that there is.
-pub(crate) fn request_of(row: &RowFields<'_>) -> Request
+pub(crate) fn request_of<'f>(row: &RowFields<'f>) -> Request<'f>
     ensures { result ≡ request_of (fields_seen row.now) }
 {
     match row {

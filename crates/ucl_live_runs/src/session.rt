@@ -49,7 +49,7 @@ impl Session {
         ensures next { OnOk result (session_of self.new (row + 1) ≡ next (session_of self.old row) (said_on row text.now)) }
         ensures text { OnOk result (bytes_of answer.new
             ≡ answer_said (session_of self.old row) (said_on row text.now) (shown_text text.now)) }
-        ensures stops { IfErr result (HasNoAnswer (session_of self.old row) (said_on row text.now)) }
+        ensures stops { IfErr result (HasNoAnswer (session_of self.old row) text.now) }
     {
         let mut record = ByteRecord::new(self.config.alloc);
         let Some(said) = read_row(self.config.alloc, row, text, &mut record)? else {
@@ -84,7 +84,7 @@ impl LineHandler for Session {
         (session_of n (row + 1) ≡ next (session_of m row) (said_on row line))
         × (text ≡ answer_said (session_of m row) (said_on row line) (shown_text line)) };
 
-    ghost stops = { λ m row line _ fault. HasNoAnswer (session_of m row) (said_on row line) fault };
+    ghost stops = { λ m row line _ fault. HasNoAnswer (session_of m row) line fault };
 
     ghost ends = { λ m row begun _ text. Closes (session_of m row) begun text };
 
@@ -128,10 +128,11 @@ impl LineHandler for Session {
 ///
 /// # Errors
 ///
-/// If the source fails, the answers before are out. If the sink fails, the error says how many bytes of the answers are out. If there is no
-/// memory for the answer to a line, those before it are out, whole. Memory is needed only for the names of clubs, for screens and matches,
-/// for each answer in JSON, and to read a line with a field that begins with a quote and does not end at the next one. If the clubs have a
-/// fault, nothing is out. `TooLong` comes after more than 2^62 bytes, which no session has.
+/// If the source fails, the answers before are out, and the error says how many bytes came. If the sink fails, it says how many bytes of
+/// the answers are out. If there is no memory for the answer to a line, those before it are out, whole. Memory is needed only for the names
+/// of clubs, at the fourth club for all events that can stand, for screens, words and matches, for each answer in JSON, and to read a line
+/// with a field that begins with a quote and does not end at the next one. If the clubs have a fault, nothing is out. `TooLong` comes after
+/// more than 2^62 bytes, which no session has.
 pub fn live_run<S: Source, W: Sink>(
     alloc: Global,
     options: LiveArgs,

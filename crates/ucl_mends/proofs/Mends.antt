@@ -3,11 +3,11 @@ use Rattle.ucl_mends.proofs.Common.{Accepted, All, All-cons, All-head, All-nil, 
 use Rattle.ucl_mends.proofs.Common.{IsLegal, IsMatch, IsMendedSoFar, IsReporter, Kept, LeftOut, List, MatchRecord, MayFollow}
 use Rattle.ucl_mends.proofs.Common.{MendsOneMore, Named, Option, Refusal, Refused, Result, StandingEvent, [], answer, ap, append-nil}
 use Rattle.ucl_mends.proofs.Common.{append_assoc, append_cancel_left, arith, attempts_from, board_of, call_again, cases_Bool, cases_eq}
-use Rattle.ucl_mends.proofs.Common.{drop-drop, drop-set-lt, drop_all, drop_more, false, fate_by, fate_of, filter-append, fold}
+use Rattle.ucl_mends.proofs.Common.{drop-drop, drop-set-lt, false, fate_by, fate_of, filter-append, fold}
 use Rattle.ucl_mends.proofs.Common.{fold-append, game_after, game_at, get_or, get_or-drop, history_in, if◌then◌else◌, inl, inr, is_ok}
 use Rattle.ucl_mends.proofs.Common.{kept_after, kept_by, left_by, left_out, length, length-append, length-map, length-set, map-append}
 use Rattle.ucl_mends.proofs.Common.{may_begin, may_last, may_none, mended, ne_eqb, refl, sequential_reply, set, subst, sym, take}
-use Rattle.ucl_mends.proofs.Common.{take_more, take_more_set, true, version_of, ℕ, ◌++◌, ◌+◌, ◌<◌, ◌==◌, ◌∙◌, ◌∷◌, ◌≡◌, ◌≤◌, ◌⊎◌}
+use Rattle.ucl_mends.proofs.Common.{take_more, take_more_set, true, version_of, ℕ, ◌++◌, ◌+◌, ◌<◌, ◌==◌, ◌∙◌, ◌∷◌, ◌≡◌, ◌≤◌}
 use Rattle.std.proofs.Common.{◌≢◌, map, Ok, Err}
 use Rattle.std.proofs.Common.{drop}
 use mathlib.Core.List.{IsPrefix}
@@ -18,7 +18,9 @@ use Rattle.ucl_board.specs.History.{attempted, entries_of, followed_by, match_af
 use Rattle.ucl_board.specs.History.{of_match}
 use Rattle.ucl_board.proofs.HistoryTheorems.{versions}
 unfoldable pub use Rattle.ucl_mends.specs.Mended.{left_out_after}
+use Rattle.ucl_mends.specs.Mended.{left_if}
 use Rattle.ucl_mends.specs.MendTheorems.{events_of}
+use Rattle.ucl_mends.proofs.LeftOuts.{few-left}
 unfoldable pub use Rattle.ucl_mends.specs.MendTheorems.{LaterEventsGoOn, MendsAreLegal, OtherMatchesStay, WholeHistoriesAreKept}
 
 -- the history of events with more behind them is the history of the first, then that of the others
@@ -48,7 +50,7 @@ kept-history kept event (Ok accepted) = history-more kept (event ∷ [])
 kept-history kept event (Err refusal) = refl
 
 -- an event of a reporter and a match that there are
-abbrev IsRanged : StandingEvent → Type 0
+abbrev pub IsRanged : StandingEvent → Type 0
 IsRanged event = IsReporter event.entry.reporter × IsMatch event.entry.game
 
 -- if those kept so far are a legal history, so is what is kept after one event more, of a reporter and a match that there are
@@ -79,7 +81,7 @@ one-on : (before : List StandingEvent) (event : StandingEvent) (more : List Stan
 one-on before event more legal = subst (λ (l : List StandingEvent). IsLegal (history_in l)) (sym (append_assoc before (event ∷ []) more)) legal
 
 -- each event of a legal history is of a reporter and a match that there are
-all-ranged : (before events : List StandingEvent) → IsLegal (history_in (before ++ events)) → All IsRanged events
+pub all-ranged : (before events : List StandingEvent) → IsLegal (history_in (before ++ events)) → All IsRanged events
 all-ranged before [] legal = All-nil IsRanged
 all-ranged before (event ∷ events) legal =
     let may = may-at before event events legal in
@@ -293,42 +295,40 @@ module _ (row : ℕ) (events : List StandingEvent) (i : ℕ) (event : StandingEv
   pub mended-front : mended row (take (i + 1) events) ≡ kept_after row (mended row (take i events)) event
   mended-front = ap (mended row) front-more ∙ mended-more row (take i events) event
 
-  -- what is to be left out from here on is what becomes of this event, and what is left out behind it
-  pub told-more : left_out_after row (mended row (take i events)) (drop i events)
-      ≡ left_by event (fate_of row (mended row (take i events)) event) ++ left_out_after row (mended row (take (i + 1) events)) (drop (i + 1) events)
+  -- the events left out of one event more are those of before, and this event, if it is refused
+  pub out-more : (fate : Fate) → fate ≡ fate_of row (mended row (take i events)) event → left_out row (take (i + 1) events) ≡ left_out row (take i events) ++ left_by event fate
   unfolding left_out_after
-  told-more =
-      let kept = mended row (take i events) in
-      ap (left_out_after row kept) (drop_more events i event below ∙ ap (λ (e : StandingEvent). e ∷ drop (i + 1) events) (sym is))
-      ∙ ap (λ (l : List StandingEvent). left_by event (fate_of row kept event) ++ left_out_after row l (drop (i + 1) events)) (sym mended-front)
+  out-more fate by =
+      ap (left_out row) front-more ∙ left-more row [] (take i events) (event ∷ [])
+      ∙ ap (λ (l : List LeftOut). left_out row (take i events) ++ l) (append-nil (left_by event (fate_of row (mended row (take i events)) event)))
+      ∙ ap (λ (f : Fate). left_out row (take i events) ++ left_by event f) (sym by)
 
-  -- what is to be left out from an event on is so behind it, if the event is not left out
-  pub told-none : (fate : Fate) → left_by event fate ≡ [] → fate ≡ fate_of row (mended row (take i events)) event
-      → left_out_after row (mended row (take (i + 1) events)) (drop (i + 1) events) ≡ left_out_after row (mended row (take i events)) (drop i events)
-  told-none fate none by =
-      let rest = left_out_after row (mended row (take (i + 1) events)) (drop (i + 1) events) in
-      sym (told-more ∙ ap (λ (f : Fate). left_by event f ++ rest) (sym by) ∙ ap (λ (l : List LeftOut). l ++ rest) none)
-
-  -- what is to be left out from an event on is this event, and what is so behind it, if the event is left out
-  pub told-one : (refusal : Refusal) → Refused refusal ≡ fate_of row (mended row (take i events)) event
-      → left_out_after row (mended row (take i events)) (drop i events)
-      ≡ record { event = event; refusal = refusal } ∷ left_out_after row (mended row (take (i + 1) events)) (drop (i + 1) events)
-  told-one refusal by =
-      told-more ∙ ap (λ (f : Fate). left_by event f ++ left_out_after row (mended row (take (i + 1) events)) (drop (i + 1) events)) (sym by)
+  -- so it is for the list of those that are left out, if they are listed
+  pub listed-more : (listed : Bool) (fate : Fate) → fate ≡ fate_of row (mended row (take i events)) event
+      → left_if listed row (take (i + 1) events) ≡ left_if listed row (take i events) ++ (if listed then left_by event fate else [])
+  listed-more true fate by = out-more fate by
+  listed-more false fate by = refl
 
   -- the mend so far, with this event, is the mend of one event more
   pub so-far-more : (fate : Fate) (board board2 : List ℕ) → IsMendedSoFar row (take i events) board → MendsOneMore row event fate board board2
       → IsMendedSoFar row (take (i + 1) events) board2
   so-far-more fate board board2 s goes = subst (λ (l : List StandingEvent). IsMendedSoFar row l board2) (sym front-more) (goes (take i events) s).1
 
--- an event that is kept or named adds none to those left out
-pub not-left : (event : StandingEvent) (fate : Fate) → (fate ≡ Kept) ⊎ (fate ≡ Named) → left_by event fate ≡ []
-not-left event fate is = elim is [ inl k ↦ ap (left_by event) k | inr n ↦ ap (left_by event) n ]
+-- where an event is not left out, no list gets it
+pub none-listed : (listed : Bool) (list : List LeftOut) (event : StandingEvent) (fate : Fate) → left_by event fate ≡ [] → list ++ (if listed then left_by event fate else []) ≡ list
+none-listed true list event fate none = ap (λ (l : List LeftOut). list ++ l) none ∙ append-nil list
+none-listed false list event fate none = append-nil list
 
--- past the last event a mend leaves out no more
-pub all-told : (row : ℕ) (events : List StandingEvent) (i : ℕ) → length events ≤ i → left_out_after row (mended row (take i events)) (drop i events) ≡ []
+-- of no events none is left out
+pub listed-none : (listed : Bool) (row : ℕ) (events : List StandingEvent) → [] ≡ left_if listed row (take 0 events)
 unfolding left_out_after
-all-told row events i past = ap (left_out_after row (mended row (take i events))) (drop_all i events past)
+listed-none true row events = refl
+listed-none false row events = refl
+
+-- at most as many events are left out as there are
+pub listed-few : (listed : Bool) (row : ℕ) (events : List StandingEvent) → length (left_if listed row events) ≤ length events
+listed-few true row events = few-left row events
+listed-few false row events = omega arith
 
 -- a mend in place: `now` is `before` with what is kept of the first `at` events at its front
 pub record IsInPlace (row : ℕ) (before now : List StandingEvent) (kept at : ℕ) (board : List ℕ) : Type 0 where
@@ -344,7 +344,7 @@ module _ (row : ℕ) (before now : List StandingEvent) (kept at : ℕ) (event : 
   in-before : at < length before
   in-before = let long = s.long in omega arith
 
-  same-event : event ≡ get_or before at event
+  pub same-event : event ≡ get_or before at event
   same-event =
       let zero : at + 0 ≡ at = omega arith in
       let same = sym (get_or-drop at now 0 event) ∙ ap (λ (l : List StandingEvent). get_or l 0 event) s.rest ∙ get_or-drop at before 0 event in

@@ -79,6 +79,10 @@ left_out_after row kept (event ∷ events) = left_by event (fate_of row kept eve
 abbrev pub left_out : ℕ → List StandingEvent → List LeftOut
 left_out row events = left_out_after row [] events
 
+-- the events that a mend which names this row leaves out, if they are to be `listed`; else none
+abbrev pub left_if : Bool → ℕ → List StandingEvent → List LeftOut
+left_if listed row events = if listed then left_out row events else []
+
 -- ---- the reply to a mend
 
 -- whether an event that stands has this row
@@ -89,7 +93,3 @@ has_row row events = list_any (λ event. event.row == row) events
 abbrev pub mend_reply : ℕ → ℕ → List StandingEvent → Result ℕ MendRefusal
 mend_reply edition row events =
     if edition == 65535 then Err LastEdition else (if not (row == 0) && has_row row events then Ok (edition + 1) else Err NoEvent)
-
--- the events that stand after a mend that names this row and gets this reply
-abbrev pub after_mend : Result ℕ MendRefusal → ℕ → List StandingEvent → List StandingEvent
-after_mend reply row events = if is_ok reply then mended row events else events

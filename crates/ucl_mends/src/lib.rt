@@ -9,4 +9,4 @@ pub use mend_refusal::MendRefusal;
 pub use mend_theorems::{
     later_events_go_on, mends_are_legal, other_matches_stay, whole_histories_are_kept,
 };
-pub use standing::{Fate, LeftOut, LeftOutEvents, StandingEvent, StandingEvents};
+pub use standing::{Fate, LeftOut, StandingEvent, StandingEvents};

@@ -1,11 +1,10 @@
 //! The events that stand on an open board, in their order, and what a mend makes of them. A mend names a row: it keeps each event that the
 //! rules accept after those kept before it, but for the one of this row.
 
-ghost use Rattle.std.specs.Prelude.{◌≡◌, ◌≤◌, ℕ, List, [], IfOk, length};
-ghost use Rattle.std.specs.Iterator.{YieldsFirst, item_count};
+ghost use Rattle.std.specs.Prelude.{◌≡◌, ◌≤◌, ◌<◌, ◌++◌, ◌∷◌, if◌then◌else◌, true, [], IfErr, IfOk, OnOk, length, vec_capacity};
 ghost use Rattle.ucl_board.specs.History.{IsLegal, board_of, sequential_reply};
 ghost use Rattle.ucl_board.specs.Words.{version_of};
-ghost use Rattle.ucl_mends.specs.Mended.{after_mend, entered, has_row, history_in, left_out, mend_reply, row_number};
+ghost use Rattle.ucl_mends.specs.Mended.{entered, has_row, history_in, left_if, mend_reply, mended, row_number};
 ghost use Rattle.ucl_mends.specs.Standing.{MendsOneMore};
 
 use crate::mend_refusal::MendRefusal;
@@ -70,28 +69,6 @@ impl Model for StandingEvents {
     ghost invariant = { λ s. AreStanding s.events.items (vec_capacity s.events) s.board };
 }
 
-/// The events that a mend leaves out, one after the other, as they stand before it. Contracts see the list of those still to come.
-#[derive(Drop)]
-pub struct LeftOutEvents<'a> {
-    events: &'a [StandingEvent],
-    at: usize,
-    row: u32,
-    board: Board,
-}
-
-impl<'a> Model for LeftOutEvents<'a> {
-    ghost use Rattle.std.specs.Prelude.{List, drop, take};
-    ghost use Rattle.ucl_mends.specs.declared.standing.LeftOut.{LeftOut};
-    ghost use Rattle.ucl_mends.specs.Mended.{left_out_after, mended};
-    ghost use Rattle.ucl_mends.specs.Standing.{IsMendedSoFar};
-
-    ghost Value = { List LeftOut };
-
-    ghost view = { λ s. left_out_after s.row (mended s.row (take s.at s.events.now)) (drop s.at s.events.now) };
-
-    ghost invariant = { λ s. IsMendedSoFar s.row (take s.at s.events.now) s.board };
-}
-
 /// Returns the number of a row as an event keeps it: 0 if it is past 4,294,967,295.
 fn row_number(row: u64) -> u32
     ensures { result ≡ row_number row }
@@ -128,6 +105,28 @@ fn enter_again(board: &mut Board, row: u32, event: &StandingEvent) -> Fate
     match board.report(event.entry.reporter, &call) {
         Ok(_) => Fate::Kept,
         Err(refusal) => Fate::Refused(refusal),
+    }
+}
+
+/// Returns an empty list of events that are left out, with room for `most` if they are to be `listed`. Fails only if out of memory.
+fn room_for(alloc: Global, most: usize, listed: bool) -> Result<Vec<LeftOut>, AllocError>
+    ensures empty { IfOk result (λ left. left.items ≡ []) }
+    ensures room { IfOk result (λ left. listed ≡ true → most ≤ vec_capacity left) }
+{
+    if listed {
+        return Vec::with_capacity(alloc, most);
+    }
+    Ok(Vec::new(alloc))
+}
+
+/// Puts an event behind those that are left out, if they are to be `listed`.
+fn put_left(left: &mut Vec<LeftOut>, listed: bool, out: LeftOut)
+    requires { listed ≡ true → length left.old.items < vec_capacity left.old }
+    ensures items { left.new.items ≡ left.old.items ++ (if listed then out ∷ [] else []) }
+    ensures room { vec_capacity left.new ≡ vec_capacity left.old }
+{
+    if listed {
+        left.push_reserved(out);
     }
 }
 
@@ -201,29 +200,25 @@ impl StandingEvents {
         }
     }
 
-    /// Returns the events that a mend which names this row leaves out, each with its refusal. The one of this row is not among them.
-    pub fn left_out(&self, row: u32) -> LeftOutEvents<'_>
-        ensures { result ≡ left_out row self.now }
-    {
-        LeftOutEvents {
-            events: self.events.as_slice(),
-            at: 0,
-            row,
-            board: Board::fresh(),
-        }
-    }
-
     /// Mends the board: the events that stand are then those of before, in their order, without the one of this row, each taken if the
-    /// rules accept it after those kept before it. Returns the edition after the mend.
+    /// rules accept it after those kept before it. Returns those that the rules refuse, each with its refusal, if they are to be `listed`,
+    /// and else none. Whether the mend may be done, and in which edition, says [`mend_reply`](StandingEvents::mend_reply).
     ///
     /// # Errors
     ///
-    /// As [`mend_reply`](StandingEvents::mend_reply) does. A refusal changes nothing.
-    pub fn mend(&mut self, edition: u16, row: u32) -> Result<u16, MendRefusal>
-        ensures reply { result ≡ mend_reply edition row self.old }
-        ensures events { self.new ≡ after_mend result row self.old }
+    /// If there is no memory for the list. Then nothing has changed.
+    pub fn mend(
+        &mut self,
+        alloc: Global,
+        row: u32,
+        listed: bool,
+    ) -> Result<Vec<LeftOut>, AllocError>
+        ensures events { OnOk result (self.new ≡ mended row self.old) }
+        ensures left { IfOk result (λ left. left.items ≡ left_if listed row self.old) }
+        ensures few { IfOk result (λ left. length left.items ≤ 49140) }
+        ensures unchanged { IfErr result (λ _. self.new ≡ self.old) }
     {
-        let next = self.mend_reply(edition, row)?;
+        let mut left = room_for(alloc, self.events.len(), listed)?;
         let mut board = Board::fresh();
         let mut kept = 0;
         for at in 0..self.events.len() {
@@ -234,32 +229,11 @@ impl StandingEvents {
                     kept += 1;
                 }
                 Fate::Named => {}
-                Fate::Refused(_) => {}
+                Fate::Refused(refusal) => put_left(&mut left, listed, LeftOut { event, refusal }),
             }
         }
         self.events.truncate(kept);
         self.board = board;
-        Ok(next)
-    }
-}
-
-impl<'a> Iterator for LeftOutEvents<'a> {
-    type Item = LeftOut;
-
-    ghost next_gives = { YieldsFirst (λ s. s) };
-
-    ghost remaining = { item_count (λ s. s) };
-
-    /// Returns the next event that is left out.
-    fn next(&mut self) -> Option<LeftOut> {
-        while self.at < self.events.len() {
-            let event = self.events[self.at];
-            self.at += 1;
-            match enter_again(&mut self.board, self.row, &event) {
-                Fate::Refused(refusal) => return Some(LeftOut { event, refusal }),
-                Fate::Kept | Fate::Named => {}
-            }
-        }
-        None
+        Ok(left)
     }
 }

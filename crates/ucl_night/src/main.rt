@@ -7,42 +7,25 @@ use ucl_command::words_of;
 pub use ucl_command::{Line, LineFault, line_of};
 pub use ucl_rows::{RunFault, status_of};
 pub use ucl_runs::{
-    Gate, NightEnd, OpenGate, feed_run, night_run, put_night, run, run_night,
+    Gate, NightEnd, OpenGate, feed_run, night_run, put_night, run, run_night, run_words,
     schedule_does_not_matter, show_run,
 };
 use ucl_screen::{FromRead, ToWrite};
 use ucl_words::WordBoard;
 
-/// Runs the program over its arguments and the standard streams. Of its runs only a night is given `rt`, without which none can wait.
-/// Standard output has no buffer, so that nothing is left to flush.
+/// Runs the program over its words and the standard streams. Standard output has no buffer, so that nothing is left to flush.
 fn main(rt: HostRuntime) -> ExitCode {
     let alloc = rt.alloc();
     let mut source = FromRead::new(rt.stdin());
     let mut sink = ToWrite::new(rt.stdout());
     let mut errors = ToWrite::new(rt.stderr());
-    let asked = match words_of(&rt, alloc) {
-        Ok(words) => line_of(alloc, &words),
-        Err(fault) => Err(fault),
-    };
-    let status = match asked {
-        Ok(
-            Line::Night {
-                group,
-                readings,
-                profile,
-            },
-        ) => run_night(
-            &rt,
-            alloc,
-            group,
-            readings,
-            profile,
-            || WordBoard::open(&rt, alloc),
-            &mut source,
-            &mut sink,
-            &mut errors,
-        ),
-        asked => run(alloc, asked, &mut source, &mut sink, &mut errors),
-    };
-    ExitCode::from(status)
+    ExitCode::from(run_words(
+        &rt,
+        alloc,
+        words_of(&rt, alloc),
+        || WordBoard::open(&rt, alloc),
+        &mut source,
+        &mut sink,
+        &mut errors,
+    ))
 }

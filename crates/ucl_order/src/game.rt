@@ -120,7 +120,7 @@ impl Match {
     }
 
     /// Returns whether the match is in play or finished, and its two clubs have the same key. Place i of `keys` is the key of slot i + 1.
-    pub(crate) fn is_level(&self, keys: &[u128; 4]) -> bool
+    pub(crate) fn is_level(&self, keys: &[u64; 4]) -> bool
         requires { IsPairing self.now }
         ensures { result ≡ is_level keys.now self.now }
     {

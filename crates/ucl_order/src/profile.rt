@@ -22,7 +22,7 @@ const AWAY_IN_TIE: &str = "away-in-tie";
 pub static PROFILE_NAMES: [&str; 2] = [UEFA, AWAY_IN_TIE];
 
 impl Profile {
-    /// Returns the name of the profile: `uefa` or `away-in-tie`.
+    /// Returns the name of the profile: `uefa` or `away-in-tie`. No other profile has it.
     pub fn name(self) -> &'static str
         ensures { result.now ≡ profile_name self }
     {

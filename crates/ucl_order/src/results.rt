@@ -73,7 +73,7 @@ impl Results {
     }
 
     /// Adds one match to the results of its clubs if it is in play or finished and they have the same key.
-    fn add_level(results: &mut [Results; 4], keys: &[u128; 4], game: &Match)
+    fn add_level(results: &mut [Results; 4], keys: &[u64; 4], game: &Match)
         requires pairing { IsPairing game.now }
         requires few { All (IsWithin 11) results.old }
         ensures value { (matches : List Match) → results.old ≡ results_of_clubs (filter (is_level keys.now) matches)
@@ -88,7 +88,7 @@ impl Results {
 
     /// Returns the results of each club, by slot, in the matches in play and finished whose two clubs have the same key. Place i of `keys`
     /// is the key of slot i + 1.
-    pub(crate) fn of_level(keys: &[u128; 4], board: &Board) -> [Results; 4]
+    pub(crate) fn of_level(keys: &[u64; 4], board: &Board) -> [Results; 4]
         ensures value { result ≡ tied_results (started_of board.now) keys.now }
         ensures fits { All FitsFields result }
     {

@@ -85,10 +85,11 @@ fn row_at(place: u8, order: &[u8; 4], marks: &[Mark; 4], results: &[Results; 4])
 /// disciplinary total and (k) the higher coefficient; and at last by slot. With `AwayInTie` away goals in the matches among the clubs
 /// come after (c), also when (d) applies them again.
 ///
-/// Marks go by finished matches. When all twelve are finished, the first two clubs have `Plus` and the others `Minus`. Before, a club
-/// can reach its points and three more for each match that it has left: `Plus` if at most one other club can reach the club's
-/// points, `Minus` if at least two others have more points than the club can reach, else `Blank`. A club with `Plus` is among the first
-/// two, and one with `Minus` is not, however the group ends ([`plus_is_certain`], [`minus_is_certain`]).
+/// Marks go by finished matches. When all twelve are finished, the first two clubs have `Plus` and the others `Minus`. Before, a club can
+/// reach its points and three more for each match that it has left: `Plus` if at most one other club can reach the club's points, `Minus`
+/// if at least two others have more points than the club can reach, else `Blank`. A club with `Plus` is among the first two, and one with
+/// `Minus` is not, however the group ends ([`plus_is_certain`], [`minus_is_certain`]). `Blank` promises nothing, and no mark foresees that
+/// a finished match is reopened (`examples/plus_lost.csv`).
 pub fn standings(board: &Board, roster: &Roster, profile: Profile) -> [Row; 4]
     ensures rows { result ≡ rows_of profile board.now roster.now }
     ensures four { length result ≡ 4 }

@@ -8,8 +8,7 @@ ghost use Rattle.crossbeam_utils.specs.Seq.{cell_view};
 ghost use Rattle.ucl_board.specs.Words.{AreWords};
 ghost use Rattle.ucl_live_board.specs.BoardInvariant.{BoardsOpenFresh};
 ghost use Rattle.ucl_live_board.specs.Passes.{reporter_figures};
-ghost use Rattle.ucl_board.specs.Log.{IsLegalStep};
-ghost use Rattle.ucl_pass.specs.CellInvariants.{CellInvariant, words_after, ImpliesInvariant, cell_pass_view};
+ghost use Rattle.ucl_pass.specs.CellInvariants.{CellInvariant, ImpliesInvariant, cell_pass_view};
 ghost use Rattle.ucl_pass.specs.CellSteps.{Answers, LooksOnly, Exchanges, exchanged, StoresEvent, IsNextBoard, entry_at, with_one_more};
 ghost use Rattle.ucl_pass.specs.CellRecords.{cell_pass_of, CellOpened, CellReported, CellRead, CellSplit, CellEnlisted, CellFull, CellMet, IsCellPassOf};
 
@@ -21,7 +20,7 @@ use std::alloc::Global;
 use std::marker::{Brand, Model};
 use std::sync::Wait;
 use ucl_board::{Board, Reading};
-use ucl_live_board::{LiveBoard, MAX_REPORTERS, TooManyReporters, View};
+use ucl_live_board::{BoardRule, LiveBoard, MAX_REPORTERS, TooManyReporters, View};
 use ucl_word::{Accepted, EventCall, OutOfMemory, Refusal, ReporterNo};
 
 /// A board of thirteen words that threads share, and load and exchange as a whole, by calls that may wait: the twelve matches, and the
@@ -82,7 +81,7 @@ impl CellBoard {
     pub fn open<R>(_rt: &R, alloc: Global) -> Result<(CellBoard, CellReaderPass), OutOfMemory>
         ensures own { IfOk result (λ opened. IsCellPassOf opened.0 opened.1) }
         ensures opened { IfOk result (λ opened. CellOpened opened.1) }
-        ensures rule { BoardsOpenFresh words_after IsLegalStep }
+        ensures rule { BoardsOpenFresh ⟦<CellRule as BoardRule>⟧.words_after ⟦<CellRule as BoardRule>⟧.may }
         ensures tied { ImpliesInvariant ⟦<CellRule as Protocol<[u64; 13], View>>⟧.holds }
     {
         let (cell, seat) = Cell::ruled(alloc, words_with(&Board::fresh(), 0))?;

@@ -23,10 +23,11 @@ bytes_of (Short line) = line.bytes
 bytes_of (Long text) = string_bytes text
 bytes_of (Words lines) = lines.items
 
--- the answer to an event, if `before` events were accepted before it: `reply` is what the board replied, and `board` the board after it
-abbrev pub reply_answer : Format → BoardHeader → ℕ → List NamedClub → NightEvent → ℕ → Result Accepted Refusal → List ℕ → List ℕ
-reply_answer Text header row clubs event before reply board = line_of_reply row event.call.game before reply
-reply_answer Json header row clubs event before reply board = json_line (reply_value row event reply header board clubs)
+-- the answer to an event, if `before` events were accepted before it: `reply` is what the board replied, and `board` the board after it,
+-- in this edition
+abbrev pub reply_answer : Format → ℕ → ℕ → NightEvent → ℕ → Result Accepted Refusal → List ℕ → List ℕ
+reply_answer Text edition row event before reply board = line_of_reply row event.call.game before reply
+reply_answer Json edition row event before reply board = json_line (reply_value row event reply edition board)
 
 -- the line of text that answers a bad row, which is neither an event nor a request
 abbrev pub bad_line : ℕ → List ℕ

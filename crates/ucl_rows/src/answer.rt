@@ -1,6 +1,7 @@
 //! The answers to single rows of an input, as text or as a line of JSON; `row` is the number of the row.
 
-ghost use Rattle.std.specs.Prelude.{◌≡◌, ◌<◌, ◌≤◌, ◌-◌, ◌^◌, ◌++◌, [], IfOk, string_bytes};
+ghost use Rattle.std.specs.Prelude.{◌≡◌, ◌≢◌, ◌⊎◌, ◌<◌, ◌≤◌, ◌-◌, ◌^◌, ◌++◌, [], IfErr, IfOk, string_bytes};
+ghost use Rattle.ucl_command.specs.declared.options.Format.TheVariants.{Json};
 ghost use Rattle.arrayvec.specs.ArrayString.{array_string_len};
 ghost use Rattle.ucl_word.specs.Names.{refusal_text};
 ghost use Rattle.ucl_screen.specs.Screen.{IsGroup};
@@ -113,7 +114,8 @@ pub fn reply_line(row: u64, game: u8, before: u16, reply: Result<Accepted, Refus
 ///
 /// If there is no memory.
 pub fn line_answer(alloc: Global, line: ReplyLine, more: &str) -> Result<Answer, AllocError>
-    ensures { IfOk result (λ answer. bytes_of answer ≡ line.bytes ++ more.now) }
+    ensures text { IfOk result (λ answer. bytes_of answer ≡ line.bytes ++ more.now) }
+    ensures memory { IfErr result (λ _. more.now ≢ []) }
 {
     if more.is_empty() {
         return Ok(Answer::Short(line));
@@ -137,10 +139,9 @@ pub fn reply_answer(
     screen: &str,
 ) -> Result<Answer, AllocError>
     requires before { before < 2 ^ 16 - 1 }
-    requires header { IsGroup reply.now.header.group }
-    ensures { IfOk result (λ answer. bytes_of answer
-        ≡ reply_answer format reply.now.header reply.now.row reply.now.roster.now reply.now.event.now before reply.now.outcome reply.now.board.now
-        ++ screen.now) }
+    ensures text { IfOk result (λ answer. bytes_of answer
+        ≡ reply_answer format reply.now.edition reply.now.row reply.now.event.now before reply.now.outcome reply.now.board.now ++ screen.now) }
+    ensures memory { IfErr result (λ _. (format ≡ Json) ⊎ (screen.now ≢ [])) }
 {
     match format {
         Format::Text => {
@@ -164,7 +165,7 @@ pub fn reply_answer(
 ///
 /// # Errors
 ///
-/// If there is no memory for an answer in JSON.
+/// If there is no memory. As text, the answer needs none.
 pub fn bad_answer(
     alloc: Global,
     format: Format,
@@ -172,8 +173,9 @@ pub fn bad_answer(
     field: BadField,
     text: &[u8],
 ) -> Result<Answer, AllocError>
-    ensures { IfOk result
+    ensures text { IfOk result
         (λ answer. bytes_of answer ≡ bad_answer format row field (shown_text text.now)) }
+    ensures memory { IfErr result (λ _. format ≡ Json) }
 {
     match format {
         Format::Text => {

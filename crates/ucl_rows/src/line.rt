@@ -1,7 +1,7 @@
 //! What a line says: the row on it, as the crate `csv` reads in its default dialect, or nothing. A line with more than 256 bytes before its
 //! end is not read, and counts as one of several rows. In contracts `said_on` is what a line says.
 
-ghost use Rattle.std.specs.Prelude.{◌≡◌, ◌+◌, ◌≤◌, ◌∷◌, [], ◌++◌, IfOk, IfSome, length, true};
+ghost use Rattle.std.specs.Prelude.{◌≡◌, ◌+◌, ◌≤◌, ◌∷◌, [], ◌++◌, IfErr, IfOk, IfSome, length, true};
 ghost use Rattle.csv.specs.Reading.{default_config, records};
 ghost use Rattle.ucl_screen.specs.Rows.{four_seen, rows_of};
 ghost use Rattle.ucl_rows.specs.Rows.{Row, fits, line_seen, of_rows, rows_on, said_on};
@@ -116,7 +116,8 @@ pub fn read_row<'a>(
     line: &'a [u8],
     record: &'a mut ByteRecord,
 ) -> Result<Option<RowFields<'a>>, AllocError>
-    ensures { IfOk result (λ said. line_seen said ≡ said_on row line.now) }
+    ensures said { IfOk result (λ said. line_seen said ≡ said_on row line.now) }
+    ensures memory { IfErr result (λ _. fits (line.now ++ 10 ∷ []) ≡ true) }
 {
     if !fits(line) {
         return Ok(Some(RowFields::Other));

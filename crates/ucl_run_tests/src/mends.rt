@@ -41,26 +41,23 @@ fn standing(alloc: Global) -> Result<StandingEvents, Fail> {
     Ok(events)
 }
 
-/// The first two rows that a mend of a row leaves out, each with its refusal.
-fn left_out(events: &StandingEvents, row: u32) -> [Option<(u32, Refusal)>; 2] {
-    let mut left_out = events.left_out(row).map(|it| (it.event.row, it.refusal));
-    [left_out.next(), left_out.next()]
-}
-
 /// If a mend takes back a goal, it drops what the rules then refuse, here the disallowing of the goal, and nothing of another match.
 #[test]
 fn a_goal_is_taken_back(rt: HostRuntime) -> Result<(), Fail> {
     let mut events = standing(rt.alloc())?;
-    let dropped = [Some((9, Refusal::NoGoal)), None];
-    assert_eq!(rt; (events.version(), left_out(&events, 7)), (6, dropped));
     for (edition, row, reply) in [
         (u16::MAX, 7, Err(MendRefusal::LastEdition)),
         (0, 11, Err(MendRefusal::NoEvent)),
         (0, 7, Ok(1)),
-        (1, 7, Err(MendRefusal::NoEvent)),
     ] {
-        assert_eq!(rt; events.mend(edition, row), reply, "edition {edition}");
+        assert_eq!(rt; events.mend_reply(edition, row), reply, "edition {edition}");
     }
-    assert_eq!(rt; events.version(), 4);
+    let left = events.mend(rt.alloc(), 7, true)?;
+    let dropped = left.first().map(|it| (it.event.row, it.refusal));
+    assert_eq!(rt; (left.len(), dropped), (1, Some((9, Refusal::NoGoal))));
+    assert_eq!(rt;
+        (events.version(), events.mend_reply(1, 7)),
+        (4, Err(MendRefusal::NoEvent))
+    );
     Ok(())
 }

@@ -9,8 +9,8 @@ use std::sync::atomic::{AtomicBool, AtomicU32, Ordering};
 use std::test::Fail;
 use std::thread::Threads;
 use ucl_board::{Board, Reading};
-use ucl_order::Profile::Uefa;
-use ucl_order::Roster;
+use ucl_order::Profile::{AwayInTie, Uefa};
+use ucl_order::{Profile, Roster};
 use ucl_pass::{CellBoard, LiveBoard};
 use ucl_rows::RunFault;
 use ucl_runs::{Gate, NightEnd, OpenGate, night_run, put_night};
@@ -32,10 +32,11 @@ fn held<B: LiveBoard, G: Gate, R: Threads + Wait + Sync>(
     night: &Night,
     readings: u32,
     gate: &G,
+    profile: Profile,
 ) -> Result<(u16, String), RunFault>
     requires { B.is_reader board.now pass }
 {
-    let end = night_run(rt, alloc, board, pass, night, b'A', readings, gate, Uefa)?;
+    let end = night_run(rt, alloc, board, pass, night, b'A', readings, gate, profile)?;
     Ok((end.settled.version, end.closing))
 }
 
@@ -82,6 +83,7 @@ fn counts([first, second]: &[AtomicU32; 2]) -> [u32; 2] {
 struct Watch {
     alloc: Global,
     roster: Roster,
+    profile: Profile,
     rule: Rule,
     reporters: [AtomicU32; 2],
     readers: [AtomicU32; 2],
@@ -93,11 +95,12 @@ struct Watch {
 type Notes = ([[u32; 2]; 3], bool);
 
 impl Watch {
-    /// A gate, which the workers of a night call as they go, that holds calls back by this rule and has counted nothing yet.
-    fn new(alloc: Global, rule: Rule) -> Result<Watch, Fail> {
+    /// A gate, which the workers of a night by this order call as they go, that holds calls back by this rule and has counted nothing yet.
+    fn new(alloc: Global, rule: Rule, profile: Profile) -> Result<Watch, Fail> {
         Ok(Watch {
             alloc,
             roster: night_of(alloc, "")?.roster,
+            profile,
             rule,
             reporters: pair(),
             readers: pair(),
@@ -133,7 +136,7 @@ impl Watch {
     /// Whether a text is the screen of a reading, which has to have at least two events if the rule lets the reporters go first.
     fn is_right(&self, reading: &Reading, text: &str) -> bool {
         let is_late = self.rule == Rule::FourAtOnce || reading.version >= 2;
-        match screen(self.alloc, &reading.board, &self.roster, b'A', Uefa) {
+        match screen(self.alloc, &reading.board, &self.roster, b'A', self.profile) {
             Ok(wanted) => is_late && wanted.as_str() == text,
             Err(_) => false,
         }
@@ -165,35 +168,41 @@ impl Gate for Watch {
     }
 }
 
-/// What a gate with this rule notes in a night on the board, in which each reader reads once; and the version on which the night settles.
+/// What a gate with this rule notes in a night by this order, in which each reader reads once; and the version on which the night settles.
 fn gated<B: LiveBoard, R: Threads + Wait + Sync>(
     rt: &R,
     alloc: Global,
     board: &B,
     pass: B::ReaderPass,
     night: &Night,
-    rule: Rule,
+    case: (Rule, Profile),
 ) -> Result<(Notes, u16), Fail>
     requires { B.is_reader board.now pass }
 {
-    let gate = Watch::new(alloc, rule)?;
-    let (version, _) = held(rt, alloc, board, pass, night, 1, &gate)?;
+    let (rule, profile) = case;
+    let gate = Watch::new(alloc, rule, profile)?;
+    let (version, _) = held(rt, alloc, board, pass, night, 1, &gate, profile)?;
     Ok((gate.notes(), version))
 }
 
-/// On both kinds of boards, and under each rule by which a gate holds calls back, a night settles on all 40 events, and the gate sees each
-/// call and each screen.
+/// On both kinds of boards, by both orders, and under each rule by which a gate holds calls back, a night settles on all 40 events, and the
+/// gate sees each call and each screen.
 #[test]
 fn gates(rt: HostRuntime) -> Result<(), Fail> {
     let alloc = rt.alloc();
     let night = night_of(alloc, HEAD_TO_HEAD)?;
-    for rule in [Rule::FourAtOnce, Rule::ReportersFirst] {
+    for case in [
+        (Rule::FourAtOnce, Uefa),
+        (Rule::FourAtOnce, AwayInTie),
+        (Rule::ReportersFirst, Uefa),
+        (Rule::ReportersFirst, AwayInTie),
+    ] {
         let (board, pass) = CellBoard::open(&rt, alloc)?;
-        let in_cell = gated(&rt, alloc, &board, pass, &night, rule)?;
+        let in_cell = gated(&rt, alloc, &board, pass, &night, case)?;
         let (board, pass) = WordBoard::open(&rt, alloc)?;
-        let in_words = gated(&rt, alloc, &board, pass, &night, rule)?;
+        let in_words = gated(&rt, alloc, &board, pass, &night, case)?;
         let wanted = (([[19, 21], [1; 2], [1; 2]], false), 40);
-        assert_eq!(rt; [in_cell, in_words], [wanted; 2], "{rule:?}");
+        assert_eq!(rt; [in_cell, in_words], [wanted; 2], "{case:?}");
     }
     Ok(())
 }
@@ -205,9 +214,9 @@ fn closing_screens<R: Threads + Wait + Sync>(
     night: &Night,
 ) -> Result<[String; 2], Fail> {
     let (board, pass) = CellBoard::open(rt, alloc)?;
-    let (_, in_cell) = held(rt, alloc, &board, pass, night, 20, &OpenGate)?;
+    let (_, in_cell) = held(rt, alloc, &board, pass, night, 20, &OpenGate, Uefa)?;
     let (board, pass) = WordBoard::open(rt, alloc)?;
-    let (_, in_words) = held(rt, alloc, &board, pass, night, 20, &OpenGate)?;
+    let (_, in_words) = held(rt, alloc, &board, pass, night, 20, &OpenGate, Uefa)?;
     Ok([in_cell, in_words])
 }
 

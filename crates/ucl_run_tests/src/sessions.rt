@@ -9,13 +9,13 @@ use ucl_io::LoggedIo;
 use ucl_live_runs::{FollowSummary, follow_run, live_run};
 use ucl_screen::{FromRead, ToWrite};
 
-/// What a session, a run of `ucl_live`, writes for an input that comes in pieces of `piece` bytes.
+/// What a session, a run of `ucl_live`, writes for an input that comes in pieces of `piece` bytes; in JSON with its screens.
 fn session(alloc: Global, format: Format, text: &str, piece: usize) -> Result<String, Fail> {
     let mut out = Vec::new(alloc);
     let options = LiveArgs {
         group: None,
         profile: None,
-        screens: false,
+        screens: matches!(format, Format::Json),
         format,
     };
     let answer = {
@@ -90,7 +90,7 @@ fn session_in_json(rt: HostRuntime) -> Result<(), Fail> {
     assert_eq!(rt;
         counts,
         FollowSummary {
-            lines: 10,
+            lines: 17,
             shown: 7
         }
     );

@@ -26,12 +26,12 @@ pub use Rattle.ucl_rows.specs.Run.{IsStopped, TextHas}
 pub use Rattle.ucl_rows.specs.declared.fault.RunFault.{RunFault}
 pub use Rattle.ucl_rows.specs.declared.fault.RunFault.TheVariants.{Input, NotOnDuty, OutOfMemory, WriteFailed}
 pub use Rattle.ucl_runs.specs.Feed.{IsFed, feed_text, line_of_event}
-pub use Rattle.ucl_runs.specs.Nights.{ComesFirst, EachMatchHasOneReporter, FoundStrangers, HasEnteredAll, HasLinearizationPoint}
+pub use Rattle.ucl_runs.specs.Nights.{ComesFirst, EachMatchHasOneReporter, FoundStrangers, HasEnteredAll, HasLinearizationPoint, HaveEntered}
 pub use Rattle.ucl_runs.specs.Nights.{HasReported, HasShown, IsDutyTold, IsEnteredAt, IsFirstOffDuty, IsFresh, IsFreshOn, IsInterleaving}
 pub use Rattle.ucl_runs.specs.Nights.{IsNightEnd, IsOfRow, IsOnDuty, IsOneOfTwo, IsRefusedAt, IsWhyNoNight, ScheduleDoesNotMatter}
 pub use Rattle.ucl_runs.specs.Nights.{attempt_by, calls_of, last_shown, last_text, night_board, night_output, night_text, number_of_two}
 pub use Rattle.ucl_runs.specs.Nights.{style_of}
-pub use Rattle.ucl_runs.specs.Program.{HasLooked, IsFaultOfNight, IsOfScript, IsOutputOfNight, IsPlayed, IsRun, Streams, Task, feed_task}
+pub use Rattle.ucl_runs.specs.Program.{IsFaultOfNight, IsOfScript, IsOutputOfNight, IsPlayed, IsRun, Streams, Task, feed_task}
 pub use Rattle.ucl_runs.specs.Program.{night_task, show_task}
 pub use Rattle.ucl_runs.specs.Show.{IsShown, Style, styled, styled_screen}
 pub use Rattle.ucl_screen.proofs.EventsInTurn.{AreEntered, entered-all, entered-one, first-event, version-bound}

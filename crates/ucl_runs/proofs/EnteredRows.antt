@@ -1,5 +1,6 @@
 -- The points of rows in one history: each row of two reporters, who report theirs in turn, each on a pass, a thread's permission, of its own.
 use Rattle.ucl_runs.proofs.Common.{Accepted, All, All-get_or, Attempt, Bool, ComesFirst, Continues, Entry, EventCall, HasEnteredAll}
+use Rattle.ucl_runs.proofs.Common.{HaveEntered}
 use Rattle.ucl_runs.proofs.Common.{HasLinearizationPoint, HasReported, IsEnteredAt, IsFresh, IsFreshOn, IsInterleaving, IsLegal, IsOfRow}
 use Rattle.ucl_runs.proofs.Common.{IsOnDuty, IsOneOfTwo, IsPrefix, IsSound, List, NightEvent, PassView, Refusal, Some, [], ap, arith}
 use Rattle.ucl_runs.proofs.Common.{at_beginning, at_below, at_either, at_end, at_within, attempt_by, attempted, begins_length, begins_take}
@@ -327,6 +328,17 @@ entered_all live board rows reporter {before} pass end own fresh reported always
   rows_entered = record { own = own; before = before; fresh = fresh; entered = reported };
   always = always;
   mine = mine;
+}
+
+-- if the new passes of two reporters have reported their rows, both have entered them
+abbrev pub have_entered : {B R P : Type 0} (live : boards.Ghosts B R P) (board : B) (rows : List NightEvent) {old_1 old_2 new_1 new_2 : P} → IsFreshOn live board old_1
+    → IsFreshOn live board old_2 → live.is_reporter board new_1 × HasReported live (calls_of 1 rows) old_1 new_1
+    → live.is_reporter board new_2 × HasReported live (calls_of 2 rows) old_2 new_2 → HaveEntered live board rows
+have_entered live board rows {old_1} {old_2} {new_1} {new_2} fresh_1 fresh_2 one two = record {
+  first = new_1;
+  second = new_2;
+  entered_1 = record { own = one.0; before = old_1; fresh = fresh_1; entered = one.1 };
+  entered_2 = record { own = two.0; before = old_2; fresh = fresh_2; entered = two.1 };
 }
 
 -- the passes k and l of two reporters, which are m and n after they have reported their rows, and a history that goes on from both

@@ -1,7 +1,9 @@
 -- The output of a night is short, so the bytes of it that went out are counted exactly.
-use Rattle.ucl_runs.proofs.Common.{Entry, Err, HasLooked, IsLegal, IsOutputOfNight, IsPlayed, List, NightEvent, None, Ok, Option, Profile}
-use Rattle.ucl_runs.proofs.Common.{Result, Script, Some, Style, [], ap, arith, board_of, board_words, codes, last_text, legal_take, length}
-use Rattle.ucl_runs.proofs.Common.{length-append, refl, styled, styled_screen, subst, take, ℕ, ◌++◌, ◌+◌, ◌<◌, ◌^◌, ◌∷◌, ◌≡◌, ◌≤◌}
+use Rattle.ucl_runs.proofs.Common.{Err, HasShown, IsPlayed, List, None, Ok, Option, PassView, Profile, Reading, Result, Script, Some, Style}
+use Rattle.ucl_runs.proofs.Common.{[], ap, arith, board_of, board_words, codes, last_shown, last_text, legal_take, length, length-append}
+use Rattle.ucl_runs.proofs.Common.{refl, string_bytes, styled, styled_screen, subst, take, ℕ, ◌++◌, ◌<◌, ◌^◌, ◌∙◌, ◌∷◌, ◌≡◌, ◌≤◌}
+use Rattle.ucl_live_board.specs.declared.live_board.LiveBoard as boards
+use Rattle.ucl_runs.specs.Nights.{settled_history}
 use Rattle.ucl_order.proofs.Clubs.{good_four}
 use Rattle.ucl_order.specs.Roster.{IsRoster, NamedClub, bad_slot}
 use Rattle.ucl_screen.specs.Input.{whole_input}
@@ -51,27 +53,39 @@ script-roster bytes night is =
     subst (λ (n : Script). IsRoster n.clubs) (same-ok (record { clubs = roster.0.0; events = events.0 }) night events.1) (roster-read (rows_of text.0) roster.0 roster.1)
 
 -- a last screen of a reader, if there is one, has with its heading of at most 9 bytes at most 305 bytes
-last-fits : (heading : List ℕ) (style : Style) (history : List Entry) (readings : ℕ) (last : Option (List ℕ)) → length heading ≤ 9 → IsRoster style.roster → IsLegal history
-    → HasLooked style history readings last → length (last_text heading last) ≤ 305
-last-fits heading style history readings None head is legal looked = omega arith
-last-fits heading style history readings (Some text) head is legal looked =
-    let screen = looked.1 in
-    let board = board_of (take screen.version history) in
-    let short = screen_short style.profile board style.roster (board_words _ (legal_take history screen.version legal)) is style.group in
+last-fits : (heading : List ℕ) (style : Style) (old new : PassView) (readings : ℕ) (last : Option (List ℕ)) → length heading ≤ 9 → IsRoster style.roster
+    → HasShown style old new readings last → length (last_text heading last) ≤ 305
+last-fits heading style old new readings None head is shown = omega arith
+last-fits heading style old new readings (Some text) head is shown =
+    let screen = shown.last_is in
+    let board = board_of (take screen.version new.seen) in
+    let short = screen_short style.profile board style.roster (board_words _ (legal_take new.seen screen.version shown.legal)) is style.group in
     omega (arith, short, length-append heading text, ap length screen.text_is)
 
--- the output of a night has fewer than 2^64 bytes
-output-fits : (rows : List NightEvent) (style : Style) (readings : ℕ) (text : List ℕ) → IsRoster style.roster → IsOutputOfNight rows style readings text → length text < 2 ^ 64
-output-fits rows style readings text is out =
-    let legal = out.merge.legal in
-    let one = last_text (codes "READER 1\n") out.last_1 in
-    let two = last_text (codes "READER 2\n") out.last_2 in
-    let one-fits : length one ≤ 305 = last-fits (codes "READER 1\n") style out.history readings out.last_1 (omega arith) is legal out.looked_1 in
-    let two-fits : length two ≤ 305 = last-fits (codes "READER 2\n") style out.history readings out.last_2 (omega arith) is legal out.looked_2 in
-    let short = screen_short style.profile (board_of out.history) style.roster (board_words out.history legal) is style.group in
-    let closing = styled_screen style (board_of out.history) in
-    omega (arith, one-fits, two-fits, short, length-append (one ++ two) (codes "FINAL\n" ++ closing), length-append one two, length-append (codes "FINAL\n") closing, ap length out.text_is)
-
 -- the output of a night that was played has fewer than 2^64 bytes
-pub played_fits : (profile : Profile) (group readings : ℕ) (bytes text : List ℕ) → IsPlayed profile group readings bytes text → length text < 2 ^ 64
-played_fits profile group readings bytes text is = output-fits is.night.events (styled profile is.night.clubs group) readings text (script-roster bytes is.night is.means) is.output
+pub played_fits : {B R P X : Type 0} (live : boards.Ghosts B R P) (Opens : Result (B × R) X → Type 0) (profile : Profile) (group readings : ℕ) (bytes text : List ℕ)
+    → IsPlayed live Opens profile group readings bytes text → length text < 2 ^ 64
+played_fits live Opens profile group readings bytes text is =
+    let style = styled profile is.night.clubs group in
+    let roster = script-roster bytes is.night is.means in
+    let out = is.output in
+    let end = out.end in
+    let history = settled_history live is.board is.pass is.night.events style readings end in
+    let one = last_text (codes "READER 1\n") (last_shown end.last 0) in
+    let two = last_text (codes "READER 2\n") (last_shown end.last 1) in
+    let one-fits : length one ≤ 305 = last-fits (codes "READER 1\n") style _ _ readings (last_shown end.last 0) (omega arith) roster out.ends.shown_1 in
+    let two-fits : length two ≤ 305 = last-fits (codes "READER 2\n") style _ _ readings (last_shown end.last 1) (omega arith) roster out.ends.shown_2 in
+    let short = screen_short style.profile (board_of history) style.roster (board_words history out.ends.merge.legal) roster style.group in
+    let closing = string_bytes end.closing in
+    let closes = ap length (out.ends.closing ∙ ap (λ (r : Reading). styled_screen style r.board) out.ends.settled) in
+    omega (
+      arith,
+      one-fits,
+      two-fits,
+      short,
+      closes,
+      length-append (one ++ two) (codes "FINAL\n" ++ closing),
+      length-append one two,
+      length-append (codes "FINAL\n") closing,
+      ap length out.text_is,
+    )

@@ -1,37 +1,9 @@
--- The output of a night, whose reporter 2 met both readers: all their screens are of beginnings of the one settled history.
-use Rattle.ucl_runs.proofs.Common.{All, All-pop, Entry, FoundStrangers, HasLooked, HasShown, IsNightEnd, IsOnDuty, IsOutputOfNight}
-use Rattle.ucl_runs.proofs.Common.{IsPrefix, List, NightEvent, None, Option, PassView, Reading, Some, Style, [], ap, arith, begins_length}
-use Rattle.ucl_runs.proofs.Common.{begins_take, begins_through, board_of, drop, last_shown, length, length-append, night_text}
-use Rattle.ucl_runs.proofs.Common.{number_of_two, refl, string_bytes, styled_screen, sym, take, take-append-drop, take_beginning, ℕ, ◌∙◌}
-use Rattle.ucl_runs.proofs.Common.{◌∷◌, ◌≡◌, ◌≢◌, ◌≤◌}
+-- The output of a night, whose reporter 2 met both readers: what they saw are beginnings of the one settled history.
+use Rattle.ucl_runs.proofs.Common.{All, Entry, FoundStrangers, IsNightEnd, IsOnDuty, IsOutputOfNight, IsPrefix, List, NightEvent, Style}
+use Rattle.ucl_runs.proofs.Common.{arith, begins_length, begins_take, begins_through, drop, length, night_output, refl, take}
+use Rattle.ucl_runs.proofs.Common.{take-append-drop, take_beginning, ℕ, ◌∙◌, ◌≢◌, ◌≤◌}
 use Rattle.ucl_live_board.specs.declared.live_board.LiveBoard as boards
 use Rattle.ucl_runs.specs.declared.night.NightEnd.{NightEnd}
-use Rattle.ucl_runs.proofs.Merges.{all_merges_agree}
-
--- if what a reader's pass has seen is a prefix of a history, its last screen is of the board after a prefix of that history; it has none if
--- it took no reading
-looked : (style : Style) (history : List Entry) (old new : PassView) (readings : ℕ) (last : Option (List ℕ)) → IsPrefix new.seen history
-    → HasShown style old new readings last → HasLooked style history readings last
-looked style history old new readings None on h = sym h.many ∙ ap length h.last_is
-looked style history old new readings (Some text) on h =
-    let is = h.last_is in
-    let all = ap length is.last in
-    let one = length-append is.before (is.version ∷ []) in
-    let many = h.many in
-    let high = (All-pop (λ version. version ≤ length new.seen) new.shown is.before (Some is.version) is.last h.high).1 in
-    let longer = begins_length new.seen history on in (
-      omega arith,
-      record {
-        version = is.version;
-        within = omega arith;
-        text_is = is.text_is ∙ ap (λ (entries : List Entry). styled_screen style (board_of entries)) (sym (take_beginning new.seen history is.version on high));
-      },
-    )
-
--- a reader that took no reading has no last screen
-unlooked : (style : Style) (history : List Entry) (readings : ℕ) (last : Option (List ℕ)) → HasLooked style history readings last → readings ≡ 0 → last ≡ None
-unlooked style history readings None looks none = refl
-unlooked style history readings (Some text) looks none = let one = looks.0 in absurd (omega arith)
 
 -- a night on the board `lent` that ended well, whose reporter 2 was then told what other passes had seen, and has now seen `met`
 module _ {B R P : Type 0} (live : boards.Ghosts B R P) (lent : B) (pass : R) (rows : List NightEvent) (style : Style) (asked : ℕ) (end : NightEnd R P)
@@ -46,31 +18,17 @@ module _ {B R P : Type 0} (live : boards.Ghosts B R P) (lent : B) (pass : R) (ro
       rw (← take_beginning (live.reporter end.reporter_2).seen met end.settled.version on ends.count.0)
       (begins_take seen met end.settled.version before (omega arith))
 
-  -- what a night without strangers wrote is the output of a merge of its rows
+  -- what a night without strangers wrote is its output
   pub output : IsPrefix (live.reader end.reader_1).seen met → IsPrefix (live.reader end.reader_2).seen met → length met ≤ end.settled.version
-      → IsOutputOfNight rows style asked (night_text (last_shown end.last 0) (last_shown end.last 1) (string_bytes end.closing))
-  output one two low =
-      let closing : string_bytes end.closing ≡ styled_screen style (board_of settled) =
-      ends.closing ∙ ap (λ (r : Reading). styled_screen style r.board) ends.settled in
-      let looked_1 = looked style settled _ _ asked (last_shown end.last 0) (of_settled (live.reader end.reader_1).seen one low) ends.shown_1 in
-      let looked_2 = looked style settled _ _ asked (last_shown end.last 1) (of_settled (live.reader end.reader_2).seen two low) ends.shown_2 in
-      record {
-        duty = duty;
-        number = number_of_two (live.reporter end.reporter_1).number (live.reporter end.reporter_2).number;
-        apart = ends.apart;
-        history = settled;
-        merge = ends.merge;
-        last_1 = last_shown end.last 0;
-        last_2 = last_shown end.last 1;
-        looked_1 = looked_1;
-        looked_2 = looked_2;
-        text_is = ap (night_text (last_shown end.last 0) (last_shown end.last 1)) closing;
-        unwatched = λ none.
-            ap (λ (l : Option (List ℕ)). night_text l (last_shown end.last 1) (string_bytes end.closing)) (unlooked style settled asked _ looked_1 none)
-            ∙ (ap (λ (r : Option (List ℕ)). night_text None r (string_bytes end.closing)) (unlooked style settled asked _ looked_2 none)
-            ∙ ap (night_text None None) closing);
-        board = λ alone. all_merges_agree _ rows settled ends.merge alone;
-      }
+      → IsOutputOfNight live lent pass rows style asked (night_output end.last end.closing)
+  output one two low = record {
+    duty = duty;
+    end = end;
+    ends = ends;
+    text_is = refl;
+    saw_1 = of_settled (live.reader end.reader_1).seen one low;
+    saw_2 = of_settled (live.reader end.reader_2).seen two low;
+  }
 
   -- if another version is read, there are strangers: a pass that has then seen `now`
   pub others : (last : P) (version : ℕ) → live.is_reporter lent last → IsPrefix met (live.reporter last).seen → length met ≤ version
@@ -86,11 +44,8 @@ module _ {B R P : Type 0} (live : boards.Ghosts B R P) (lent : B) (pass : R) (ro
       (λ seen p. (let l = begins_length seen _ p in
       begins_take seen now version (begins_through seen _ now p (begins_through _ met now on later)) (omega arith))) in
       record {
-        first = one.pass;
-        second = two.pass;
+        entered = record { first = one.pass; second = two.pass; entered_1 = one.rows_entered; entered_2 = two.rows_entered };
         last = last;
-        entered_1 = one.rows_entered;
-        entered_2 = two.rows_entered;
         own = own;
         high = high;
         met_1 = through _ seen_1;

@@ -19,6 +19,11 @@ use Rattle.std.proofs.lemmas.List.Sorted.{IsNonDecreasingBy-push}
 use Rattle.ucl_screen.specs.declared.fault.InputFault.TheVariants as input
 use Rattle.ucl_live_board.specs.declared.live_board.LiveBoard as boards
 use Rattle.ucl_io.specs.declared.stream.Sink as writes
+use Rattle.ucl_command.specs.declared.fault.LineFault.{LineFault}
+use Rattle.ucl_command.specs.declared.night.Line.{Line}
+use Rattle.ucl_command.specs.declared.night.Line.TheVariants.{Night}
+use Rattle.ucl_rows.specs.Ending.{Ended}
+use Rattle.ucl_runs.specs.Program.{RunsLine, RunsTask}
 
 -- if the input, as far as it is known, means this script, the text of its events is what `feed` writes for the input
 pub text_of_feed : (known : Option (List ℕ)) (night : Script) (text : List ℕ)
@@ -112,10 +117,13 @@ scripted None night Q means h = tt
 scripted (Some bytes) night Q means h = (night, means, h)
 
 -- if the input, as far as it is known, is this script, the output of a night of its events is what `ucl_night night` writes for the input
-pub played : (profile : Profile) (group readings : ℕ) (known : Option (List ℕ)) (night : Script) (text : List ℕ) → IfSome known (λ bytes. MeansNight bytes (Ok night))
-    → IsOutputOfNight night.events (styled profile night.clubs group) readings text → IfSome known (λ bytes. IsPlayed profile group readings bytes text)
-played profile group readings None night text means is = tt
-played profile group readings (Some bytes) night text means is = record { night = night; means = means; output = is }
+pub played : {B R P X : Type 0} (live : boards.Ghosts B R P) (Opens : Result (B × R) X → Type 0) (board : B) (pass : R) → Opens (Ok (board, pass))
+    → (profile : Profile) (group readings : ℕ) (known : Option (List ℕ)) (night : Script) (text : List ℕ) → IfSome known (λ bytes. MeansNight bytes (Ok night))
+    → IsOutputOfNight live board pass night.events (styled profile night.clubs group) readings text
+    → IfSome known (λ bytes. IsPlayed live Opens profile group readings bytes text)
+played live Opens board pass on_it profile group readings None night text means is = tt
+played live Opens board pass on_it profile group readings (Some bytes) night text means is =
+    record { night = night; means = means; board = board; pass = pass; on_it = on_it; output = is }
 
 -- a night on a board that was opened for the script that was read
 module _ {B R P X : Type 0} (live : boards.Ghosts B R P) (Opens : Result (B × R) X → Type 0) (profile : Profile) (group readings : ℕ)
@@ -148,6 +156,12 @@ module _ {B R P X : Type 0} (live : boards.Ghosts B R P) (Opens : Result (B × R
   failed_night sink w k b after f calls same reads why duty =
       stopped sink (night_task live Opens profile group readings) (record { left = known; calls = k; read_failed = b; sink = w }) after calls f tt same reads
       (fault_of f why duty) tt (λ bad. absurd (cc))
+
+-- a night that was asked for, and ran, is what the arguments ask for
+pub night_ran : {B R P X W : Type 0} (live : boards.Ghosts B R P) (Opens : Result (B × R) X → Type 0) (known : writes.Ghosts W) (asked : Result Line LineFault) (line : Line)
+    (group readings : ℕ) (profile : Profile) (before after : Streams W) (e : Ended) → asked ≡ Ok line → line ≡ Night group readings profile
+    → RunsTask known (night_task live Opens profile group readings) before after e → RunsLine live Opens known asked before after e
+night_ran live Opens known asked line group readings profile before after e is night runs = rw (is, night) runs
 
 -- a number from 1 to 2 is 1 or 2
 one_or_two : (n : ℕ) → 1 ≤ n → n ≤ 2 → (n ≡ 1) ⊎ (n ≡ 2)

@@ -17,7 +17,7 @@ use Rattle.ucl_live_board.specs.Passes.{PassView, IsSound, SeesOn, Continues, ke
 use Rattle.ucl_live_board.specs.Settling.{AreAlone}
 use Rattle.ucl_live_board.specs.Shares.{first_half, second_half}
 use Rattle.ucl_rows.specs.declared.fault.RunFault.{RunFault}
-use Rattle.ucl_rows.specs.declared.fault.RunFault.TheVariants.{Input, WriteFailed, TooManyReporters, Strangers}
+use Rattle.ucl_rows.specs.declared.fault.RunFault.TheVariants.{Input, OutOfMemory, WriteFailed, NotOnDuty, NoThread, TooManyReporters, Strangers}
 use Rattle.ucl_rows.specs.Faults.{HasNoNumberLeft}
 use Rattle.ucl_rows.specs.Run.{MatchDuty}
 use Rattle.ucl_runs.specs.declared.config.NightConfig.{NightConfig}
@@ -233,26 +233,33 @@ module _ {B R P : Type 0} (live : boards.Ghosts B R P) (board : B) where
     pub always : Continues (live.reporter pass) end
     pub mine : end.mine ≡ (live.reporter pass).mine
 
-  -- two reporters have entered the rows of a night, and then one of them has read this version, which is not that of their events only
-  pub record FoundStrangers (rows : List NightEvent) (version : ℕ) : Type 0 where
+  -- both reporters have entered their rows of a night
+  pub record HaveEntered (rows : List NightEvent) : Type 0 where
     pub first : P
     pub second : P
-    pub last : P
     pub entered_1 : EnteredRowsOf rows 1 first
     pub entered_2 : EnteredRowsOf rows 2 second
+
+  -- two reporters have entered the rows of a night, and then one of them has read this version, which is not that of their events only
+  pub record FoundStrangers (rows : List NightEvent) (version : ℕ) : Type 0 where
+    pub entered : HaveEntered rows
+    pub last : P
     pub own : live.is_reporter board last
     pub high : version ≤ length (live.reporter last).seen
-    pub met_1 : IsPrefix (live.reporter first).seen (take version (live.reporter last).seen)
-    pub met_2 : IsPrefix (live.reporter second).seen (take version (live.reporter last).seen)
-    pub others : AreAlone (live.reporter first) (live.reporter second) version → ⊥
+    pub met_1 : IsPrefix (live.reporter entered.first).seen (take version (live.reporter last).seen)
+    pub met_2 : IsPrefix (live.reporter entered.second).seen (take version (live.reporter last).seen)
+    pub others : AreAlone (live.reporter entered.first) (live.reporter entered.second) version → ⊥
 
-  -- why a night of these rows failed, which reads no input and writes no output; no number is left, or there are strangers, only if that is so
+  -- why a night of these rows failed, which reads no input and writes no output: no number is left, or there are strangers, only if that is
+  -- so; a thread is missing only once each worker has its pass; and memory only once both reporters have entered their rows
   abbrev pub IsWhyNoNight : List NightEvent → RunFault → Type 0
   IsWhyNoNight rows (Input e) = ⊥
   IsWhyNoNight rows (WriteFailed written) = ⊥
   IsWhyNoNight rows TooManyReporters = HasNoNumberLeft live board
+  IsWhyNoNight rows NoThread = (lent : Workers P R) × AreReady live board lent
+  IsWhyNoNight rows OutOfMemory = HaveEntered rows
   IsWhyNoNight rows (Strangers version) = FoundStrangers rows version
-  IsWhyNoNight rows _ = ⊤
+  IsWhyNoNight rows (NotOnDuty row) = ⊤
 
 -- what a night promises on the board and the pass that were lent, of these rows, in this style, if each reader takes as many readings as asked
 module _ {B R P : Type 0} (live : boards.Ghosts B R P) (lent : B) (pass : R) (rows : List NightEvent) (style : Style) (asked : ℕ) where
@@ -302,8 +309,9 @@ module _ {B R P : Type 0} (live : boards.Ghosts B R P) (lent : B) (pass : R) (ro
 
   -- a night ended with this result
   pub record NightPromise (result : Result (NightEnd R P) RunFault) : Type 0 where
-    -- a night reads no input and writes no output, so it has no fault of these. It answers 30 only if the board has no number left, and 31 only if
-    -- both reporters have entered their rows, and the board then has events that are not theirs, or they have one number
+    -- a night reads no input and writes no output, so it has no fault of these. It answers 30 only if the board has no number left, 27 only once
+    -- each worker has its pass, 23 only once both reporters have entered their rows, and 31 only if they have, and the board then has events that
+    -- are not theirs, or they have one number
     pub kinds : IfErr result (IsWhyNoNight live lent rows)
     -- a row of a reporter who is not on duty is reported exactly if there is one, and the first is
     pub duty : MatchResult result (λ _. All IsOnDuty rows) (IsDutyTold rows)

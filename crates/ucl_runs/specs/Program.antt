@@ -1,8 +1,7 @@
 -- What a run of `feed`, of `show` or of a night promises, and what `ucl_night` does for its arguments. A task is what a run is to do with
 -- its input. Streams are a sink, and what is known of a source, at one moment of a run.
-use Rattle.std.specs.Prelude.{◌≡◌, ◌≢◌, ℕ, ◌≤◌, ⊤, Bool, List, All, length, take, Option, Some, None, IfSome, Result, Ok, Err, IfErr, OnOk}
-use Rattle.ucl_board.specs.declared.entry.Entry.{Entry}
-use Rattle.ucl_board.specs.History.{board_of}
+use Rattle.std.specs.Prelude.{◌≡◌, ℕ, ⊤, Bool, List, All, Option, IfSome, Result, Ok, Err, IfErr, OnOk}
+use mathlib.Core.List.{IsPrefix}
 use Rattle.ucl_order.specs.declared.profile.Profile.{Profile}
 use Rattle.ucl_screen.specs.declared.fault.InputFault.{InputFault}
 use Rattle.ucl_screen.specs.declared.night.NightEvent.{NightEvent}
@@ -19,9 +18,10 @@ use Rattle.ucl_rows.specs.declared.fault.RunFault.TheVariants.{Input, OutOfMemor
 use Rattle.ucl_rows.specs.Ending.{Ended, Ends, ExitsWithoutCommand}
 use Rattle.ucl_rows.specs.Faults.{IsOfOneThread}
 use Rattle.ucl_runs.specs.Feed.{IsFed}
-use Rattle.ucl_runs.specs.Show.{IsShown, Style, styled, styled_screen}
+use Rattle.ucl_runs.specs.Show.{IsShown, Style, styled}
 use Rattle.ucl_live_board.specs.declared.live_board.LiveBoard as boards
-use Rattle.ucl_runs.specs.Nights.{EachMatchHasOneReporter, IsFirstOffDuty, IsInterleaving, IsOnDuty, IsWhyNoNight, night_board, night_text}
+use Rattle.ucl_runs.specs.declared.night.NightEnd.{NightEnd}
+use Rattle.ucl_runs.specs.Nights.{IsFirstOffDuty, IsNightEnd, IsOnDuty, IsWhyNoNight, night_output, settled_history}
 use Rattle.ucl_io.specs.Stream.{WroteFirst}
 use Rattle.ucl_rows.specs.Run.{BlamesOutput, CallsWithin, IfInput, IfWriteFailed, DistinguishesMemory, TextHas, WritesAll, WritesNothing, is_read_failed}
 
@@ -89,42 +89,28 @@ IsOfScript known Q = IfSome known (λ bytes. (night : Script) × MeansNight byte
 
 -- The text of a night. --
 
--- a text is the screen, in this style, of the board after some number of first entries of a history
-pub record IsScreenWithin (style : Style) (history : List Entry) (text : List ℕ) : Type 0 where
-  pub version : ℕ
-  pub within : version ≤ length history
-  pub text_is : text ≡ styled_screen style (board_of (take version history))
-
--- this is the last screen of a reader that has taken so many readings of a history; there is none exactly if it was to take none
-abbrev pub HasLooked : Style → List Entry → ℕ → Option (List ℕ) → Type 0
-HasLooked style history readings None = readings ≡ 0
-HasLooked style history readings (Some text) = (1 ≤ readings) × IsScreenWithin style history text
-
--- a text is the output of a night of these rows, of reporters 1 and 2: one history is an interleaving of the rows, the last screens of both
--- readers are of the board after beginnings of it, and the closing screen is of the board after all of it
-pub record IsOutputOfNight (rows : List NightEvent) (style : Style) (readings : ℕ) (text : List ℕ) : Type 0 where
+-- a text is the output of a night of these rows, of reporters 1 and 2, on a board that was lent with a pass of it: the night ended as nights
+-- do; the text has the last screen of each reader under its heading, and the closing screen; and both readers saw beginnings of the history
+-- that the closing screen is of
+pub record IsOutputOfNight {B R P : Type 0} (live : boards.Ghosts B R P) (lent : B) (pass : R) (rows : List NightEvent) (style : Style) (readings : ℕ) (text : List ℕ) : Type 0 where
   pub duty : All IsOnDuty rows
-  pub number : ℕ → ℕ
-  pub apart : number 1 ≢ number 2
-  pub history : List Entry
-  pub merge : IsInterleaving number rows history
-  pub last_1 : Option (List ℕ)
-  pub last_2 : Option (List ℕ)
-  pub looked_1 : HasLooked style history readings last_1
-  pub looked_2 : HasLooked style history readings last_2
-  pub text_is : text ≡ night_text last_1 last_2 (styled_screen style (board_of history))
-  -- without readings the text is the closing screen; if each match has one reporter, that is of the rows in script order
-  pub unwatched : readings ≡ 0 → text ≡ night_text None None (styled_screen style (board_of history))
-  pub board : EachMatchHasOneReporter rows → board_of history ≡ night_board number rows
-
--- the input is a script of reporters 1 and 2, and this is the output of a night of it
-pub record IsPlayed (profile : Profile) (group readings : ℕ) (bytes text : List ℕ) : Type 0 where
-  pub night : Script
-  pub means : MeansNight bytes (Ok night)
-  pub output : IsOutputOfNight night.events (styled profile night.clubs group) readings text
+  pub end : NightEnd R P
+  pub ends : IsNightEnd live lent pass rows style readings end
+  pub text_is : text ≡ night_output end.last end.closing
+  pub saw_1 : IsPrefix (live.reader end.reader_1).seen (settled_history live lent pass rows style readings end)
+  pub saw_2 : IsPrefix (live.reader end.reader_2).seen (settled_history live lent pass rows style readings end)
 
 -- a night over a live board, which was opened with its first pass: `Opens` is what is known of how that ended
 module _ {B R P X : Type 0} (live : boards.Ghosts B R P) (Opens : Result (B × R) X → Type 0) where
+  -- the input is a script of reporters 1 and 2, and this is the output of a night of it on the board that was opened
+  pub record IsPlayed (profile : Profile) (group readings : ℕ) (bytes text : List ℕ) : Type 0 where
+    pub night : Script
+    pub means : MeansNight bytes (Ok night)
+    pub board : B
+    pub pass : R
+    pub on_it : Opens (Ok (board, pass))
+    pub output : IsOutputOfNight live board pass night.events (styled profile night.clubs group) readings text
+
   -- the input is a script of reporters 1 and 2, and a night of it on the board that was opened ends with this fault for its cause
   pub record FailsOnBoard (known : Option (List ℕ)) (fault : RunFault) : Type 0 where
     pub rows : List NightEvent
@@ -171,3 +157,8 @@ Runs known (Ok (Show group profile)) before after e = RunsTask known (show_task 
 Runs known (Ok (Night group readings profile)) before after e = ⊥
 Runs known (Err fault) before after e = (after ≡ record before { sink = after.sink })
     × ExitsWithoutCommand known.failed known.taken fault before.sink after.sink e
+
+-- how `ucl_night` ends, by its parsed arguments: a night is one on a board that is opened for it, and all else is as above
+abbrev pub RunsLine : {B R P X W : Type 0} → boards.Ghosts B R P → (Result (B × R) X → Type 0) → writes.Ghosts W → Result Line LineFault → Streams W → Streams W → Ended → Type 0
+RunsLine live Opens known (Ok (Night group readings profile)) before after e = RunsTask known (night_task live Opens profile group readings) before after e
+RunsLine live Opens known asked before after e = Runs known asked before after e

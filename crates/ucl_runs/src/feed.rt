@@ -62,7 +62,7 @@ fn feed_text(alloc: Global, events: &[NightEvent]) -> Result<Vec<u8>, AllocError
 /// Reads a script from the source, enters its events on a fresh board, and writes the text of `feed` to the sink: a line with the reply to
 /// each event, and then the lines of the twelve match words.
 ///
-/// The whole input is read before anything is written.
+/// The whole input is read, by at most 4,194,306 calls of the source, before anything is written.
 ///
 /// # Errors
 ///

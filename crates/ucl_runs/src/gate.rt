@@ -1,5 +1,8 @@
 //! The gate of a night, which tests use to count its calls and to hold up its threads.
 
+ghost use Rattle.std.specs.Prelude.{◌≡◌};
+ghost use Rattle.ucl_runs.specs.Show.{Style, styled_screen};
+
 use ucl_board::Reading;
 
 /// What the workers of a night call as they go: 1 and 2 are the reporters, 3 and 4 the readers. What a night promises holds whatever a gate
@@ -11,7 +14,8 @@ pub trait Gate: Sync {
     fn come(&self, worker: u8, call: u32);
 
     /// Is called after each screen of a reader, with the reading, a snapshot of the board, of which `text` is the screen.
-    fn shown(&self, worker: u8, reading: &Reading, text: &str);
+    fn shown(&self, worker: u8, reading: &Reading, text: &str)
+        requires { (style : Style) × (text.now ≡ styled_screen style reading.now.board) };
 }
 
 /// The gate that does nothing, and so holds no worker up.

@@ -74,7 +74,8 @@ fn check_duty(rows: &[NightEvent]) -> Result<(), RunFault>
 /// In this order: `NotOnDuty` with the first row of a reporter other than 1 and 2, and then nothing was entered; `TooManyReporters` if the
 /// board has no two numbers for reporters left; `NoThread` if a worker had no thread; `OutOfMemory` if a reader had no memory for a screen;
 /// `Strangers` if the board has events of a third reporter; `OutOfMemory` if there was none for the closing screen. Workers that run go on
-/// to their end first. The board keeps the events that it accepted, and no pass is handed back.
+/// to their end first. The board keeps the events that it accepted, and no pass is handed back. That events of a third reporter do not come
+/// of the night itself is tested, not proved.
 pub fn night_run<B: LiveBoard, G: Gate, R: Threads + Wait + Sync>(
     rt: &R,
     alloc: Global,

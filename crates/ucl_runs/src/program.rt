@@ -1,11 +1,14 @@
 //! What `ucl_night` does with its arguments, and with what stands for its standard streams: `source`, `sink` and `errors`.
 
-ghost use Rattle.std.specs.Prelude.{IfOk, MatchResult};
+ghost use Rattle.std.specs.Prelude.{◌≡◌, Err, IfOk, MatchResult, Result, map, string_bytes};
 ghost use Rattle.ucl_command.specs.Arguments.{IsInRange};
+ghost use Rattle.ucl_command.specs.Commands.{AsksFor};
+ghost use Rattle.ucl_command.specs.declared.fault.LineFault.{LineFault};
+ghost use Rattle.ucl_command.specs.declared.night.Line.{Line};
 ghost use Rattle.ucl_rows.specs.Ending.{ended_with};
 ghost use Rattle.ucl_screen.specs.Screen.{IsGroup};
 ghost use Rattle.ucl_runs.specs.Nights.{IsDutyTold, IsWhyNoNight, night_output};
-ghost use Rattle.ucl_runs.specs.Program.{IsNoNight, IsOutputOfNight, Runs, RunsTask, night_task, streams_at};
+ghost use Rattle.ucl_runs.specs.Program.{IsNoNight, IsOutputOfNight, Runs, RunsLine, RunsTask, night_task, streams_at};
 ghost use Rattle.ucl_runs.specs.Show.{styled};
 
 use crate::feed::feed_run;
@@ -15,7 +18,7 @@ use crate::show::show_run;
 use std::alloc::Global;
 use std::sync::Wait;
 use std::thread::Threads;
-use ucl_command::{Line, LineFault};
+use ucl_command::{Line, LineFault, line_of};
 use ucl_live_board::LiveBoard;
 use ucl_order::Profile;
 use ucl_rows::{RunFault, ended, exit_without_command};
@@ -70,7 +73,7 @@ fn play<B: LiveBoard, R: Threads + Wait + Sync>(
     requires own { B.is_reader board.now pass }
     requires group { IsGroup group }
     ensures { MatchResult result
-        (λ end. IsOutputOfNight night.entry.now.events.items
+        (λ end. IsOutputOfNight B.LiveBoard board.entry.now pass night.entry.now.events.items
         (styled profile night.entry.now.roster group) readings
         (night_output end.last end.closing))
         (λ f. IsWhyNoNight B.LiveBoard board.entry.now night.entry.now.events.items f
@@ -109,7 +112,7 @@ fn play<B: LiveBoard, R: Threads + Wait + Sync>(
 
 /// Reads a script, runs a night of it on a board that `opening` opens with its first pass, and writes the output: the last screens of both
 /// readers, which take `readings` readings each, and the closing screen. Returns the exit status: 0 if it was done, and otherwise that of
-/// the fault, with its line on `errors`. Of all that `ucl_night` runs this alone may wait.
+/// the fault, with its line on `errors`; 27 only once each worker has its pass. Of all that `ucl_night` runs this alone may wait.
 pub fn run_night<B: LiveBoard + Drop, O, S: Source, W: Sink, E: Sink, R: Threads + Wait + Sync>(
     rt: &R,
     alloc: Global,
@@ -141,5 +144,45 @@ where
     match play(rt, alloc, &board, pass, &night, group, readings, profile) {
         Ok(end) => ended(errors, put_night(&end, sink)),
         Err(fault) => ended(errors, Err(fault)),
+    }
+}
+
+/// Runs `ucl_night` for the words of its command line, `words`, or for why they could not be read. Returns the exit status, as `run` and
+/// `run_night` do; a night is on a board that `opening` opens with its first pass.
+pub fn run_words<B: LiveBoard + Drop, O, S: Source, W: Sink, E: Sink, R: Threads + Wait + Sync>(
+    rt: &R,
+    alloc: Global,
+    words: Result<Vec<String>, LineFault>,
+    opening: O,
+    source: &mut S,
+    sink: &mut W,
+    errors: &mut E,
+) -> u8
+where
+    O: FnOnce() -> Result<(B, B::ReaderPass), OutOfMemory> + Drop,
+    requires callable { O.pre opening }
+    requires own { (r : _) → O.post opening r → IfOk r (λ it. B.is_reader it.0 it.1) }
+    ensures { (asked : Result Line LineFault)
+        × MatchResult words (λ found. IfOk asked (AsksFor (map string_bytes found.items)))
+        (λ fault. asked ≡ Err fault)
+        × RunsLine B.LiveBoard (O.post opening) W.Sink asked
+        (streams_at S.Source source.old sink.old) (streams_at S.Source source.new sink.new)
+        (ended_with E.failed E.taken result errors.old errors.new) }
+{
+    let asked = match words {
+        Ok(words) => line_of(alloc, &words),
+        Err(fault) => Err(fault),
+    };
+    match asked {
+        Ok(
+            Line::Night {
+                group,
+                readings,
+                profile,
+            },
+        ) => run_night(
+            rt, alloc, group, readings, profile, opening, source, sink, errors,
+        ),
+        asked => run(alloc, asked, source, sink, errors),
     }
 }

@@ -10,7 +10,7 @@ use ucl_screen::{Sink, Source, read_words, screen};
 
 /// Reads a sheet from the source, and writes the screen of its board, for a group, by the tie-break rules of the profile, to the sink.
 ///
-/// The whole input is read before anything is written.
+/// The whole input is read, by at most 4,194,306 calls of the source, before anything is written.
 ///
 /// # Errors
 ///

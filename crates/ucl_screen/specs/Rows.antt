@@ -1,4 +1,5 @@
 -- The rows of an input, and what a reader of them has left. A row is the list of its fields, and a field is a list of bytes.
+-- `records` of `csv` are all rows that it reads of a text, and `default_config` is its default dialect.
 use Rattle.std.specs.Prelude.{◌≡◌, ℕ, ◌+◌, Bool, true, false, List, [], ◌∷◌, length, Option, Some, None}
 use Rattle.std.specs.Borrow.{Bor}
 use Rattle.csv.specs.Machine.{ends_at_end}

@@ -169,7 +169,8 @@ fn ends_length(text: &[u8]) -> usize
     text.len()
 }
 
-/// Returns what a text begins with: no row, a row of four fields, a row of more or fewer, or a row that only `csv` can read.
+/// Returns what a text begins with: no row, a row of four fields, a row of more or fewer, or a row that only `csv` can read. The row is the
+/// first that `csv` reads of the text, also if more follows where a line ends; the rest has the other rows.
 pub fn first_row(text: &[u8]) -> FirstRow<'_>
     ensures { IsFirstRow result text.now }
 {

@@ -1,19 +1,19 @@
 -- The passes of a log, one step more: their numbers, the entries that their steps add, and their calls, which come one after another.
 use Rattle.ucl_steps.proofs.Common.{◌≡◌, ◌≢◌, inl, inr, ℕ, ◌+◌, ◌<◌, ◌≤◌, ◌==◌, Bool, true, false, cond, List, ◌∷◌, ◌++◌, length, take, Option, Some, None}
 use Rattle.ucl_steps.proofs.Common.{refl, sym, ap, ◌∙◌, subst, arith, [], le_refl, length-append, cases_eq, length_push, slice_get, slice_index, none-some}
-use Rattle.ucl_steps.proofs.Common.{false≢true, same_Some, take-append-le, take-append-drop, take-take, take-length, at_below, at_longer, at_end, at_either}
+use Rattle.ucl_steps.proofs.Common.{false≢true, take-append-le, take-append-drop, take-append_seam, take-take, take-length, at_below, at_longer, at_end, at_either}
 use Rattle.ucl_steps.proofs.Common.{begins_length, IsPrefix, Entry, EventCall, Refusal, Stale, refusal_of, record_at, entry_of, reading_of}
 use Rattle.ucl_steps.proofs.Common.{Reply, Accepted, Refused, Copied, Pending, NoCall, Holding, Collecting, Checking, Outcome, GoesOn, Answers}
-use Rattle.ucl_steps.proofs.Common.{by_rules, drop, FinishedCall, MadeBy, accepts}
+use Rattle.ucl_steps.proofs.Common.{by_rules, drop, FinishedCall, accepts}
 use Rattle.std.specs.List.{fold}
 use Rattle.std.proofs.lemmas.List.Sums.{fold-append}
 use Rattle.ucl_word.proofs.Sequences.{may_induction, may_begin, may_last}
 use Rattle.ucl_board.specs.Log.{Enlisted, Enlists, First, IsLog, Log, Logged, Look, Match, MayBeTaken, Second, Swap, Taken, Target, Whole, entry_list}
 use Rattle.ucl_board.specs.Log.{history_of, taken_by, enlisted_by, number_by, number_of, MayEnlist, LogFacts}
-use Rattle.ucl_board.proofs.Logs.{history_append, history_more, history_same, taken_own, taken_other}
+use Rattle.ucl_board.proofs.Logs.{history_append, history_more, taken_own, taken_other}
 use Rattle.ucl_steps.specs.ClientState.{ClientState, FollowsProtocol, IsNextFor, IsNextOfProtocol, with_outcome, with_target, with_step}
-use Rattle.ucl_steps.specs.ClientState.{call_answered, client_at, client_of, entry_by, first_place, new_client, outcome, point_of}
-use Rattle.ucl_steps.specs.LogHistory.{IsCall, entries_before}
+use Rattle.ucl_steps.specs.ClientState.{call_answered, client_at, client_of, entry_by, first_place, new_client, outcome}
+use Rattle.ucl_steps.proofs.Points.{entries_before, point_at, point_of, pointed}
 
 -- a step of a pass is added to what the pass has done
 pub client_own : (log : Log) (x : Logged) → client_at x.seat (log ++ x ∷ []) ≡ with_step (client_at x.seat log) x.step
@@ -167,11 +167,6 @@ first_after h first place last now was = search (arith, holding, collecting, che
 first_low : (h : Pending) (first place : ℕ) → (h ≢ NoCall → first < place) → first_place h first place ≤ place
 first_low h first place was = search (arith, le_refl, holding, collecting, checking)
 
--- the length of the history that is kept as the beginning of a step's call is how many entries there were before the call's first step
-begun_by : (log : Log) (h : Pending) (begun first place now : ℕ) → now ≡ length (history_of log) → place ≡ length log
-    → (h ≢ NoCall → begun ≡ entries_before log first) → first_place h begun now ≡ entries_before log (first_place h first place)
-begun_by log h begun first place now is here was = search (arith, holding, collecting, checking, entries_all)
-
 -- the point of a call lies between the first step of the call and the present
 point_within : (log : Log) (h : Pending) (first place now : ℕ) → now ≡ length (history_of log) → Noted log first h
     → (entries_before log (first_place h first place) ≤ point_of h now) × (point_of h now ≤ now)
@@ -186,9 +181,8 @@ pub record IsTimed (log : Log) (seat : ℕ) (c : FinishedCall) : Type 0 where
   pub begins : IsOwnStep log seat c.first
   ends : IsOwnStep log seat c.last
   pub first : c.first ≤ c.last
-  pub entries : (c.begun ≡ entries_before log c.first) × (c.ended ≡ entries_before log (c.last + 1))
-  pub within : (c.begun ≤ c.point) × (c.point ≤ entries_before log c.last)
-  pub by_end : accepts c.reply ≡ true → (c.point ≡ entries_before log c.last) × (c.point < c.ended)
+  pub within : (entries_before log c.first ≤ point_at log seat c) × (point_at log seat c ≤ entries_before log c.last)
+  pub by_end : accepts c.reply ≡ true → (point_at log seat c ≡ entries_before log c.last) × (entries_before log c.last < entries_before log (c.last + 1))
 
 -- the first step of a call is of the pass that makes the call
 first_own : (log : Log) (seat : ℕ) (h : Pending) (first place : ℕ) → IsOwnStep log seat place → (h ≢ NoCall → IsOwnStep log seat first)
@@ -200,31 +194,18 @@ pub record InTurn (log : Log) (seat : ℕ) (d : ClientState) : Type 0 where
   pub timed : (k : ℕ) (a : FinishedCall) → slice_get d.calls k ≡ Some a → IsTimed log seat a
   pub turns : (k l : ℕ) (a b : FinishedCall) → slice_get d.calls k ≡ Some a → slice_get d.calls l ≡ Some b → k < l → a.last < b.first
   pub under : d.held ≢ NoCall → IsOwnStep log seat d.first × ((k : ℕ) (a : FinishedCall) → slice_get d.calls k ≡ Some a → a.last < d.first)
-  begun : d.held ≢ NoCall → d.begun ≡ entries_before log d.first
   noted : Noted log d.first d.held
 
--- some call made the entry at this place of the history
-pub record IsMade (log : Log) (place : ℕ) : Type 0 where
-  pub call : ℕ × ℕ
-  pub by : MadeBy (λ (i : ℕ × ℕ). IsCall log i.0 i.1) place call
-
--- in a log the calls of each pass come one after another, and each entry is of some call
-pub record AllInTurn (log : Log) : Type 0 where
-  pub turn : (seat : ℕ) → InTurn log seat (client_at seat log)
-  pub made : (place : ℕ) → place < length (history_of log) → IsMade log place
+-- in a log the calls of each pass come one after another
+abbrev pub AllInTurn : Log → Type 0
+AllInTurn log = (seat : ℕ) → InTurn log seat (client_at seat log)
 
 -- the step in which a call ended is one of the log
 pub last_below : (log : Log) (seat : ℕ) (c : FinishedCall) → IsTimed log seat c → c.last < length log
 last_below log seat c t = at_below log c.last t.ends.0 t.ends.1
 
--- two calls that end with one step are of one pass
-pub one_seat : (log : Log) (i j : ℕ) (a b : FinishedCall) → IsTimed log i a → IsTimed log j b → a.last ≡ b.last → i ≡ j
-one_seat log i j a b s t is =
-    let same : s.ends.0 ≡ t.ends.0 = same_Some s.ends.0 t.ends.0 (sym s.ends.1 ∙ (ap (slice_get log) is ∙ t.ends.1)) in
-    sym s.ends.2 ∙ (ap (λ (y : Logged). y.seat) same ∙ t.ends.2)
-
 -- a call that is under way began with a step of the log
-under_below : (log : Log) (seat : ℕ) (d : ClientState) → InTurn log seat d → d.held ≢ NoCall → d.first < length log
+pub under_below : (log : Log) (seat : ℕ) (d : ClientState) → InTurn log seat d → d.held ≢ NoCall → d.first < length log
 under_below log seat d t some = let own = (t.under some).0 in at_below log d.first own.0 own.1
 
 -- a log with one step more
@@ -239,12 +220,27 @@ module _ (log : Log) (x : Logged) where
   own_later : (seat place : ℕ) → IsOwnStep log seat place → IsOwnStep (log ++ x ∷ []) seat place
   own_later seat place own = (own.0, at_longer log (x ∷ []) place own.0 own.1, own.2)
 
-  -- a call of a log has the same times in the log with one step more
+  -- a call keeps its point
+  pub point_same : (seat : ℕ) (c : FinishedCall) → c.last < length log → point_at (log ++ x ∷ []) seat c ≡ point_at log seat c
+  point_same seat c below = ap (λ (l : Log). point_of (client_at seat l).held (length (history_of l))) (take-append-le c.last log (x ∷ []) (omega arith))
+
+  pub pointed_same : (seat : ℕ) (c : FinishedCall) → IsTimed log seat c → pointed (log ++ x ∷ []) seat c ≡ pointed log seat c
+  pointed_same seat c t =
+      let below = last_below log seat c t in
+      let first = t.first in
+      let point = point_same seat c below in
+      let begun = entries_same log (x ∷ []) c.first (omega arith) in
+      let ended = entries_same log (x ∷ []) (c.last + 1) (omega arith) in
+      λ k. record { number = c.number; call = c.call; reply = c.reply; point = point k; first = c.first; last = c.last; begun = begun k; ended = ended k }
+
+  -- and its times
   timed_later : (seat : ℕ) (c : FinishedCall) → IsTimed log seat c → IsTimed (log ++ x ∷ []) seat c
   timed_later seat c t =
       let below = last_below log seat c t in
       let first = t.first in
+      let low = t.within.0 in
       let high = t.within.1 in
+      let point = point_same seat c below in
       let same_first = entries_same log (x ∷ []) c.first (omega arith) in
       let same_last = entries_same log (x ∷ []) c.last (omega arith) in
       let same_end = entries_same log (x ∷ []) (c.last + 1) (omega arith) in
@@ -252,9 +248,8 @@ module _ (log : Log) (x : Logged) where
         begins = own_later seat c.first t.begins;
         ends = own_later seat c.last t.ends;
         first = t.first;
-        entries = (t.entries.0 ∙ sym same_first, t.entries.1 ∙ sym same_end);
-        within = (t.within.0, omega arith);
-        by_end = λ made. ((t.by_end made).0 ∙ sym same_last, (t.by_end made).1);
+        within = (omega arith, omega arith);
+        by_end = λ made. let at = (t.by_end made).0 in let grows = (t.by_end made).1 in (omega arith, omega arith);
       }
 
   -- a point that was noted stays noted, and the calls of a pass stay in turn
@@ -266,12 +261,20 @@ module _ (log : Log) (x : Logged) where
     timed = λ k a at. timed_later seat a (t.timed k a at);
     turns = t.turns;
     under = λ some. (own_later seat d.first (t.under some).0, (t.under some).1);
-    begun = λ some. let low = under_below log seat d t some in t.begun some ∙ sym (entries_same log (x ∷ []) d.first (omega arith));
     noted = noted_later d.first d.held (under_below log seat d t) t.noted;
   }
 
-  -- a step of one seat
-  module _ (place_is : x.step.place ≡ length log) (at_is : x.step.at ≡ length (history_of log)) (d : ClientState) (t : InTurn log x.seat d) where
+  -- a step in its place
+  module _ (place_is : x.step.place ≡ length log) (at_is : x.step.at ≡ length (history_of log)) where
+    -- the point of a call that it ends
+    pub point_new : (reply : Reply) → point_at (log ++ x ∷ []) x.seat (call_answered reply x.step (client_at x.seat log)) ≡ point_of (client_at x.seat log).held x.step.at
+    point_new reply = ap (λ (l : Log). point_of (client_at x.seat l).held (length (history_of l))) (ap (λ (n : ℕ). take n (log ++ x ∷ [])) place_is ∙ take-append_seam log (x ∷ []))
+        ∙ ap (point_of (client_at x.seat log).held) (sym at_is)
+
+  module _ (place_is : x.step.place ≡ length log) (at_is : x.step.at ≡ length (history_of log)) (t : InTurn log x.seat (client_at x.seat log)) where
+    abbrev d : ClientState
+    d = client_at x.seat log
+
     -- the first step of the call under way is no later than this step, and of this seat
     first_is : first_place d.held d.first x.step.place ≤ x.step.place
     first_is = first_low d.held d.first x.step.place (λ some. let low = under_below log x.seat d t some in omega arith)
@@ -284,10 +287,6 @@ module _ (log : Log) (x : Logged) where
     after_all : (k : ℕ) (a : FinishedCall) → slice_get d.calls k ≡ Some a → a.last < first_place d.held d.first x.step.place
     after_all k a at = let below = last_below log x.seat a (t.timed k a at) in
         first_after d.held d.first x.step.place a.last (omega arith) (λ some. (t.under some).1 k a at)
-
-    since : first_place d.held d.begun x.step.at ≡ entries_before (log ++ x ∷ []) (first_place d.held d.first x.step.place)
-    since = let low = first_is in begun_by log d.held d.begun d.first x.step.place x.step.at at_is place_is t.begun
-        ∙ sym (entries_same log (x ∷ []) (first_place d.held d.first x.step.place) (omega arith))
 
     -- a call that is accepted by this step has its entry, and its point now
     added : (reply : Reply) → AddsBy d.held x.step.at x.step.entry (Answers reply) → accepts reply ≡ true
@@ -309,16 +308,15 @@ module _ (log : Log) (x : Logged) where
         let end : x.step.place + 1 ≡ length (log ++ x ∷ []) = omega arith in
         let all = ap (entries_before (log ++ x ∷ [])) end ∙ entries_all (log ++ x ∷ []) in
         let more = ap length (history_more log x) ∙ length-append (history_of log) (entry_list x.step.entry) in
-        let begun = since in
+        let is = point_new place_is at_is reply in
         record {
           begins = begins_here;
           ends = (x, ap (slice_get (log ++ x ∷ [])) place_is ∙ at_end log x, refl);
           first = first_is;
-          entries = (since, omega arith);
           within = (omega arith, omega arith);
           by_end = λ made.
               let t = added reply adds made in
-              let is = t.1 in
+              let now_is = t.1 in
               let one = ap (λ (o : Option Entry). length (entry_list o)) t.0.1 in
               (omega arith, omega arith);
         }
@@ -327,7 +325,7 @@ module _ (log : Log) (x : Logged) where
     outcome_in_turn : (o : Outcome) → NotedBy (log ++ x ∷ []) (first_place d.held d.first x.step.place) o → AddsBy d.held x.step.at x.step.entry o
         → InTurn (log ++ x ∷ []) x.seat (with_outcome o x.step d)
     outcome_in_turn (GoesOn held) noted adds =
-        record { timed = λ k a at. timed_later x.seat a (t.timed k a at); turns = t.turns; under = λ _. (begins_here, after_all); begun = λ _. since; noted = noted }
+        record { timed = λ k a at. timed_later x.seat a (t.timed k a at); turns = t.turns; under = λ _. (begins_here, after_all); noted = noted }
     outcome_in_turn (Answers reply) noted adds =
         let c = call_answered reply x.step d in
         record {
@@ -343,23 +341,12 @@ module _ (log : Log) (x : Logged) where
             ]
           ];
           under = λ some. absurd (some refl);
-          begun = λ some. absurd (some refl);
           noted = tt;
         }
 
-    -- what the pass has done then, and which call made the entry that came
-    abbrev Then : ClientState → Type 0
-    Then y = InTurn (log ++ x ∷ []) x.seat y × ((e : Entry) → x.step.entry ≡ Some e
-        → (c : FinishedCall) × (slice_get y.calls (length d.calls) ≡ Some c) × (accepts c.reply ≡ true) × (c.point ≡ length (history_of log)))
-
-    -- if the step added an entry, it ended a call that was accepted, with its point there
-    made_by : (o : Outcome) → AddsBy d.held x.step.at x.step.entry o → (e : Entry) → x.step.entry ≡ Some e
-        → (c : FinishedCall) × (slice_get (with_outcome o x.step d).calls (length d.calls) ≡ Some c) × (accepts c.reply ≡ true) × (c.point ≡ length (history_of log))
-    made_by (Answers (Accepted accepted)) adds e is = let c = call_answered (Accepted accepted) x.step d in (c, at_end d.calls c, refl, adds.1 ∙ at_is)
-    made_by o adds e is = absurd (none-some e (sym adds ∙ is))
-
-    -- after a step the calls of its pass are in turn, and the entry that came is of a call, by the step's outcome
-    by_outcome : (target : Target) → x.step.entry ≡ entry_by d.number d.held target → Then (with_outcome (outcome d.number d.held target x.step.at) x.step d)
+    -- after a step the calls of its pass are in turn, by the step's outcome
+    by_outcome : (target : Target) → x.step.entry ≡ entry_by d.number d.held target
+        → InTurn (log ++ x ∷ []) x.seat (with_outcome (outcome d.number d.held target x.step.at) x.step d)
     by_outcome target is =
         let o = outcome d.number d.held target x.step.at in
         let low = first_is in
@@ -368,67 +355,37 @@ module _ (log : Log) (x : Logged) where
         let before = entries_low log first in
         let long = begins_length (history_of log) (history_of (log ++ x ∷ [])) begins in
         let adds : AddsBy d.held x.step.at x.step.entry o = subst (λ (z : Option Entry). AddsBy d.held x.step.at z o) (sym is)
-        (adds_by d.number d.held target x.step.at) in (
-          outcome_in_turn o (noted_by (log ++ x ∷ []) d.first x.step.place d.number x.step.at d.held target (omega arith) (omega arith)
-              (noted_later d.first d.held (under_below log x.seat d t) t.noted)) adds,
-          made_by o adds,
-        )
+        (adds_by d.number d.held target x.step.at) in
+        outcome_in_turn o (noted_by (log ++ x ∷ []) d.first x.step.place d.number x.step.at d.held target (omega arith) (omega arith)
+        (noted_later d.first d.held (under_below log x.seat d t) t.noted)) adds
 
-    step_in_turn : (target : Target) → IsNextFor d target → x.step.entry ≡ entry_by d.number d.held target → Then (with_target target x.step d)
+    step_in_turn : (target : Target) → IsNextFor d target → x.step.entry ≡ entry_by d.number d.held target → InTurn (log ++ x ∷ []) x.seat (with_target target x.step d)
     step_in_turn (Match kind game found) next is = by_outcome (Match kind game found) is
     step_in_turn (Enlisted found) next is = by_outcome (Enlisted found) is
     step_in_turn (Enlists found) next is =
         let u = turn_later x.seat d t in
-        (record { timed = u.timed; turns = u.turns; under = u.under; begun = u.begun; noted = u.noted }, λ e some. absurd (none-some e (sym (is ∙ enlist_none d.held d.number found) ∙ some)))
+        record { timed = u.timed; turns = u.turns; under = u.under; noted = u.noted }
     step_in_turn (Whole shown) next is = absurd next
 
 -- a finished call stays where it is among those of its pass
 pub calls_kept : (target : Target) (y : Taken) (d : ClientState) (k : ℕ) (a : FinishedCall) → slice_get d.calls k ≡ Some a → slice_get (with_target target y d).calls k ≡ Some a
 calls_kept target y d k a at = search (arith, at_longer)
 
--- in a log with one step more the calls of each pass come one after another, and each entry is of a call
+-- in a log with one step more the calls of each pass come one after another
 next_in_turn : (log : Log) (x : Logged) → AllInTurn log → MayBeTaken log x → IsNextOfProtocol log x → AllInTurn (log ++ x ∷ [])
 next_in_turn log x r may next =
     let d = client_at x.seat log in
-    let t = step_in_turn log x may.place.0 may.place.1 d (r.turn x.seat) x.step.target next.next next.entry in
-    record { turn = by_seat log x (InTurn (log ++ x ∷ [])) (with_step d x.step) refl t.0 (λ seat not. turn_later log x seat (client_at seat log) (r.turn seat)); made = made t.1 }
-  where
-    old : (place : ℕ) → place < length (history_of log) → IsMade (log ++ x ∷ []) place
-    old place low =
-        let m = r.made place low in
-        let k = m.call.1 in
-        let on = by_seat log x (λ seat y. slice_get (client_at seat log).calls k ≡ Some m.by.0 → slice_get y.calls k ≡ Some m.by.0)
-        (with_step (client_at x.seat log) x.step) refl (calls_kept x.step.target x.step (client_at x.seat log) k m.by.0) (λ seat not at. at) in
-        record { call = m.call; by = (m.by.0, on m.call.0 m.by.1, m.by.2, m.by.3) }
+    by_seat log x (InTurn (log ++ x ∷ [])) (with_step d x.step) refl (step_in_turn log x may.place.0 may.place.1 (r x.seat) x.step.target next.next next.entry)
+    (λ seat not. turn_later log x seat (client_at seat log) (r seat))
 
-    made : ((e : Entry) → x.step.entry ≡ Some e → (c : FinishedCall) × (slice_get (with_step (client_at x.seat log) x.step).calls (length (client_at x.seat log).calls) ≡ Some c)
-        × (accepts c.reply ≡ true) × (c.point ≡ length (history_of log))) → (place : ℕ) → place < length (history_of (log ++ x ∷ [])) → IsMade (log ++ x ∷ []) place
-    made new place low = by x.step.entry refl
-      where
-        by : (o : Option Entry) → x.step.entry ≡ o → IsMade (log ++ x ∷ []) place
-        by None is = let same = ap length (history_same log x is) in old place (omega arith)
-        by (Some e) is =
-            let more = grown log x e is in
-            elim (cases_eq place (length (history_of log))) [
-              | inl last ↦
-                  let m = new e is in
-                  let n = length (client_at x.seat log).calls in
-                  record { call = (x.seat, n); by = (m.0, ap (λ (y : ClientState). slice_get y.calls n) (client_own log x) ∙ m.1, m.2, m.3 ∙ sym last) }
-              | inr other ↦ old place (omega arith)
-            ]
-
--- in each log that follows the protocol the calls of each pass come in turn, and each entry is of some call
+-- in each log that follows the protocol the calls of each pass come in turn
 pub all_in_turn : (log : Log) → IsLog log → FollowsProtocol log → AllInTurn log
 all_in_turn log = may_induction MayBeTaken (λ l. FollowsProtocol l → AllInTurn l)
-    (λ f. record {
-      turn = λ seat. record {
-        timed = λ k a at. absurd (none-some a at);
-        turns = λ k l a b at bt less. absurd (none-some a at);
-        under = λ some. absurd (some refl);
-        begun = λ some. absurd (some refl);
-        noted = tt;
-      };
-      made = λ place low. absurd (omega arith);
+    (λ f seat. record {
+      timed = λ k a at. absurd (none-some a at);
+      turns = λ k l a b at bt less. absurd (none-some a at);
+      under = λ some. absurd (some refl);
+      noted = tt;
     })
     (λ xs x before may was f. next_in_turn xs x (was (may_begin IsNextOfProtocol xs (x ∷ []) f)) may (may_last IsNextOfProtocol xs x f))
     log

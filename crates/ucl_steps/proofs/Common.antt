@@ -19,11 +19,11 @@ pub use Rattle.ucl_board.specs.History.{IsLegal, MayFollow, attempted, board_of,
 pub use Rattle.ucl_board.specs.Log.{Access, AccessKind, access}
 pub use Rattle.ucl_board.specs.Words.{AreWords, max_version, version_of, word_at}
 pub use Rattle.ucl_board.specs.declared.entry.Entry.{Entry}
-pub use Rattle.ucl_steps.specs.Theorems.{ReadingsAreSnapshots, ReportsAreSequential, RunsAreLinearizable, UncleanTriesAreFew, UncleanTriesSeeMore}
-pub use Rattle.ucl_steps.specs.Theorems.{WordsAreOfTheHistory}
-pub use Rattle.ucl_steps.specs.Linearizable.{FinishedCall, GoesBefore, IsExplained, IsLinearizable, MadeBy, MakesEntry, accepts, sequential_answer}
-pub use Rattle.ucl_steps.specs.RunHistory.{BeginsAt, EndedBySteps, EndsAs, EndsAt, IsReplied, IsLinearizableRun, begun_in, caller_and_call}
+pub use Rattle.ucl_steps.specs.Theorems.{ReadingsAreSnapshots, ReportsAreSequential, RunsAreLinearizable, UncleanTriesAreFew}
+pub use Rattle.ucl_steps.specs.Theorems.{UncleanTriesSeeMore, WordsAreOfTheHistory}
+pub use Rattle.ucl_steps.specs.ClientState.{FinishedCall}
 pub use Rattle.ucl_steps.specs.RunHistory.{caller_number}
+pub use Rattle.ucl_steps.specs.Seen.{accepts}
 pub use Rattle.ucl_steps.specs.Machine.{Answered, Callers, CallerState, Idle, MachineState, Wanting, Within, after_begin, after_end, after_outcome}
 pub use Rattle.ucl_steps.specs.Machine.{after_reply, after_step, after_step_holding, after_steps, caller_of, change_at, held_at_begin, held_by, initial_state}
 pub use Rattle.ucl_steps.specs.Machine.{may_begin, set_held, state_after_first, stored, with_end, with_held, with_reply}

@@ -1,6 +1,6 @@
 -- Lists with one element changed, what each caller holds then; histories with one entry more, their prefixes, and the words of their boards.
-use Rattle.ucl_steps.proofs.Common.{◌≡◌, ℕ, zero, suc, ◌<◌, ◌≤◌, List, ◌∷◌, ◌++◌, take, drop, length, Option, Some, refl, sym, ap, ◌∙◌, arith, [], slice_get}
-use Rattle.ucl_steps.proofs.Common.{IfSome, take-append-drop, take-take, none-some, same_Some, ◌≢◌, map, ◌⊎◌, inl, inr, change_at, slice_set, cases_eq}
+use Rattle.ucl_steps.proofs.Common.{◌≡◌, ℕ, zero, suc, ◌<◌, ◌≤◌, List, ◌∷◌, ◌++◌, take, drop, length, Some, refl, sym, ap, ◌∙◌, arith, [], slice_get}
+use Rattle.ucl_steps.proofs.Common.{take-append-drop, take-take, none-some, same_Some, ◌≢◌, map, ◌⊎◌, inl, inr, change_at, slice_set, cases_eq}
 use Rattle.ucl_steps.proofs.Common.{Caller, CallerState, Callers, held_by, set_held, ◌+◌, ◌-◌, ◌==◌, None, length-append, get_or, set, eqb-true, not-false}
 use Rattle.ucl_steps.proofs.Common.{ext_get_or, MatchRecord, after, word_of, record_at, may_next, Entry, entries_of, match_after, board_of, MayFollow}
 use Rattle.ucl_steps.proofs.Common.{IsLegal, entries-append, entries_same, legal_match, match_valid, word_after, board_length, same_number, same_word}
@@ -13,9 +13,6 @@ use Rattle.ucl_word.proofs.Words.{record_back}
 use Rattle.ucl_board.proofs.HistoryTheorems as low
 
 module _ {A : Type 0} where
-  pub if_some : (o : Option A) (P : A → Type 0) → ((x : A) → o ≡ Some x → P x) → IfSome o P
-  if_some o P f = search arith
-
   pub take_split : (xs : List A) (a b : ℕ) → a ≤ b → take b xs ≡ take a xs ++ drop a (take b xs)
   take_split xs a b l = sym (take-append-drop a (take b xs)) ∙ ap (λ (z : List A). z ++ drop a (take b xs)) (take-take a b xs l)
 
@@ -42,12 +39,7 @@ module _ {X : Type 0} where
   change_at_else (suc k) f (x ∷ xs) (suc i) y not e = change_at_else k f xs i y (λ is. not (ap suc is)) e
 
 module _ {X Y : Type 0} where
-  -- a function that goes along with the change of an element, or does not see it
-  pub map-change_at : (g : X → Y) (k : ℕ) (f : X → X) (f' : Y → Y) → ((x : X) → g (f x) ≡ f' (g x)) → (xs : List X) → map g (change_at k f xs) ≡ change_at k f' (map g xs)
-  map-change_at g k f f' each [] = refl
-  map-change_at g zero f f' each (x ∷ xs) = ap (λ (z : Y). z ∷ map g xs) (each x)
-  map-change_at g (suc k) f f' each (x ∷ xs) = ap (λ (z : List Y). g x ∷ z) (map-change_at g k f f' each xs)
-
+  -- a function that does not see the change of an element
   pub map_unseen : (g : X → Y) (k : ℕ) (f : X → X) → ((x : X) → g (f x) ≡ g x) → (xs : List X) → map g (change_at k f xs) ≡ map g xs
   map_unseen g k f each [] = refl
   map_unseen g zero f each (x ∷ xs) = ap (λ (z : Y). z ∷ map g xs) (each x)

@@ -9,7 +9,7 @@ use Rattle.ucl_board.proofs.Logs.{knows_step, taken_append}
 use Rattle.ucl_steps.proofs.Clients.{all_in_turn, calls_kept}
 use Rattle.ucl_steps.proofs.Histories.{get_some}
 use Rattle.ucl_steps.specs.ClientState.{ClientState, FollowsProtocol, client_at, client_of, new_client, with_step}
-use Rattle.ucl_steps.specs.LogHistory.{IsCall}
+use Rattle.ucl_steps.specs.ClientState.{IsCall}
 
 -- more steps leave the finished calls of a pass where they are
 steps_keep : (steps : List Taken) (d : ClientState) (k : ℕ) (c : FinishedCall) → slice_get d.calls k ≡ Some c → slice_get (fold with_step d steps).calls k ≡ Some c
@@ -28,7 +28,7 @@ pub begins_after : (known log later : Log) (seat k : ℕ) (c : FinishedCall) →
     → taken_by seat known ≡ taken_by seat log → IsCall later seat k c → length known ≤ c.first → length log ≤ c.first
 begins_after known log later seat k c is follows p q same at since = elim (cases_lt c.first (length log)) [
   | inl less ↦
-      let own = (((all_in_turn later is follows).turn seat).timed k c at).begins in
+      let own = ((all_in_turn later is follows seat).timed k c at).begins in
       let y = get_some log c.first less in
       let step : y.0 ≡ own.0 = same_Some y.0 own.0 (sym (at_beginning log later c.first y.0 p y.1) ∙ own.1) in
       let seat_is : y.0.seat ≡ seat = ap (λ (z : Logged). z.seat) step ∙ own.2 in

@@ -1,6 +1,6 @@
 pub mod Common
 pub mod Histories
-pub mod Turns
+pub mod Points
 pub mod Calls
 pub mod Runs
 pub mod Accesses
@@ -10,3 +10,14 @@ pub mod LogFacts
 pub mod LogRuns
 pub mod LogHistory
 pub mod LaterLogs
+pub mod EventLists
+pub mod CallEvents
+pub mod CallHistories
+pub mod Placed
+pub mod ObjectRuns
+pub mod BoardObject
+pub mod RunEvents
+pub mod RunLinear
+pub mod Freshness
+pub mod Longer
+pub mod Strong

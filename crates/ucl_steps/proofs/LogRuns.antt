@@ -6,7 +6,7 @@ use Rattle.ucl_steps.proofs.Common.{EventCall, IsMatch, IsReporter, word_of, wor
 use Rattle.ucl_steps.proofs.Common.{Call, Event, Reading, Step, Reply, CallerState, Idle, Wanting, Within, Answered, MachineState, initial_state, held_by}
 use Rattle.ucl_steps.proofs.Common.{with_held, held_at_begin, after_begin, after_reply, after_end, after_outcome, stored, after_step_holding, after_step}
 use Rattle.ucl_steps.proofs.Common.{after_steps, Pending, NoCall, Holding, Collecting, Checking, Outcome, GoesOn, Answers, looked, swapped, loaded, compared}
-use Rattle.ucl_steps.proofs.Common.{FinishedCall, IsLinearizableRun, replicate, at_end, at_either, none-some}
+use Rattle.ucl_steps.proofs.Common.{FinishedCall, replicate, at_end, at_either, none-some}
 use Rattle.ucl_steps.proofs.Common.{All-nil, All-cons, CallRecord, with_reply, with_end, begins_length}
 use Rattle.std.proofs.lemmas.Bool.{and_from}
 use Rattle.ucl_word.proofs.Sequences.{may_induction, may_begin, may_last}
@@ -15,16 +15,17 @@ use Rattle.ucl_steps.specs.Machine as rules
 use Rattle.ucl_steps.specs.Machine.{begun_call}
 use Rattle.ucl_steps.proofs.Histories.{held_here, held_else, change_at_here}
 use Rattle.ucl_steps.proofs.Calls.{IsDecided, IsSequential, IsSettled, LiesWithin, sequential_later, decided}
-use Rattle.ucl_steps.proofs.Runs.{Keeps, kept_at_start, run_kept, linearizable, same_reporter}
+use Rattle.ucl_steps.proofs.Runs.{Keeps, kept_at_start, run_kept, same_reporter}
 use Rattle.ucl_steps.proofs.Clients.{begins, by_seat, look_none, first_none, second_none, count_none, enlist_none}
-use Rattle.ucl_steps.proofs.Clients.{numbers_low, numbers_apart}
+use Rattle.ucl_steps.proofs.Clients.{numbers_low, numbers_apart, point_new, point_same}
+use Rattle.ucl_steps.proofs.Points.{point_at, point_of, pointed}
 use Rattle.ucl_steps.proofs.LogFacts.{Offers, Sees, logs_facts, logs_sound}
 use Rattle.ucl_board.proofs.Logs.{history_more, history_same, enlisted_more, below_more}
 use Rattle.ucl_board.specs.Log.{AccessKind, Look, Swap, First, Second, Target, Match, Enlisted, Enlists, Taken, Logged, Log, history_of, enlists, enlisted_by}
 use Rattle.ucl_board.specs.Log.{IsThere, MayBeTaken, IsLog, Whole, LogFacts, entry_list}
 use Rattle.ucl_steps.specs.ClientState.{ClientState, client_at, outcome, with_outcome, with_step, next_game, IsNextFor, entry_by}
-use Rattle.ucl_steps.specs.ClientState.{IsNextOfProtocol, FollowsProtocol, call_asked, call_answered, point_of}
-use Rattle.ucl_steps.specs.LogHistory.{IsCall}
+use Rattle.ucl_steps.specs.ClientState.{IsNextOfProtocol, FollowsProtocol, call_asked, call_answered}
+use Rattle.ucl_steps.specs.ClientState.{IsCall}
 use Rattle.ucl_steps.specs.LogRuns.{caller_for, cast_for, ends_by, steps_on, steps_after, machine_steps, LongerLogsAreLongerRuns}
 use Rattle.ucl_steps.specs.LogRuns.{HoldsAs, LogsAreRuns}
 
@@ -54,7 +55,7 @@ one_then : (s : Step) (steps : List Step) (w v u : MachineState) → after_step 
 one_then s steps w v u one rest = ap (option_and_then (after_steps steps)) one ∙ rest
 
 -- steps and then more steps lead where the later ones lead from the state between them
-run_append : (xs ys : List Step) (w v : MachineState) → after_steps xs w ≡ Some v → after_steps (xs ++ ys) w ≡ after_steps ys v
+pub run_append : (xs ys : List Step) (w v : MachineState) → after_steps xs w ≡ Some v → after_steps (xs ++ ys) w ≡ after_steps ys v
 run_append [] ys w v e = ap (after_steps ys) (same_Some w v e)
 run_append (s ∷ xs) ys w v e = option_and_then_some (after_steps xs) (after_step w s) v e (λ u is rest. ap (option_and_then (after_steps (xs ++ ys))) is
     ∙ run_append xs ys u v rest)
@@ -155,7 +156,7 @@ may_read : (c : Caller) → rules.may_begin c Reading ≡ true
 may_read c = search arith
 
 -- the board before one step of a pass on a match word, which finds the word that is there
-module _ (steps : List Step) (w : MachineState) (kept : Keeps steps w) (number game found at : ℕ) (is : IsMatch game)
+module _ (w : MachineState) (kept : Keeps w) (number game found at : ℕ) (is : IsMatch game)
     (there : found ≡ word_of (match_after w.history game)) (now : at ≡ length w.history) where
   word_here : word_at w.words game ≡ found
   word_here = ap (λ (ws : List ℕ). word_at ws game) kept.words ∙ (word_after w.history game is ∙ sym there)
@@ -260,14 +261,14 @@ outcome_held : (o : Outcome) (y : Taken) (d : ClientState) → ((with_outcome o 
 outcome_held o y d = search arith
 
 -- in a run of the machine a caller that is within a call and holds h matches a pass that holds h, which is not NoCall
-holds_within : (steps : List Step) (w : MachineState) → Keeps steps w → (c : Caller) (k : ℕ) (h : Pending) → held_by w.callers c ≡ Some (Within k h)
+holds_within : (w : MachineState) → Keeps w → (c : Caller) (k : ℕ) (h : Pending) → held_by w.callers c ≡ Some (Within k h)
     → HoldsAs h (held_by w.callers c)
-holds_within steps w kept c k h holds = search (arith, (kept.knows c (Within k h) k holds refl).sees)
+holds_within w kept c k h holds = search (arith, (kept.knows c (Within k h) k holds refl).sees)
 
 -- in a run of the machine a caller that holds what an outcome says matches a pass after that outcome
-holds_then : (steps : List Step) (w : MachineState) → Keeps steps w → (c : Caller) (k : ℕ) (o : Outcome) → HeldThen c k o w
+holds_then : (w : MachineState) → Keeps w → (c : Caller) (k : ℕ) (o : Outcome) → HeldThen c k o w
     → HoldsAs (held_after o) (held_by w.callers c)
-holds_then steps w kept c k o holds = search (arith, holds_within)
+holds_then w kept c k o holds = search (arith, holds_within)
 
 -- the caller of a pass with a number is the reporter of that number
 reporter_is : (seat number : ℕ) → IsReporter number → caller_for seat number ≡ Reporter number
@@ -285,13 +286,22 @@ callers_apart i j n m not numbers e = search (arith, same_reader, same_reporter)
 not_reporter : (n seat number : ℕ) → number < n → Reporter n ≢ caller_for seat number
 not_reporter n seat number less e = search (arith, same_reporter)
 
--- if the reply to a call is that of the board of one thread at its point in the history of a log, it is so with one step more of the log
-settled_later : (log : Log) (x : Logged) (c : FinishedCall) → IsSettled (history_of log) c → IsSettled (history_of (log ++ x ∷ [])) c
-settled_later log x c s =
+-- a finished call ended with a step of the log, and its reply is that of the board of one thread at its point
+abbrev IsSettledIn : Log → ℕ → FinishedCall → Type 0
+IsSettledIn log seat c = (c.last < length log) × IsSettled (history_of log) (pointed log seat c)
+
+-- it is so with one step more of the log
+settled_later : (log : Log) (x : Logged) (seat : ℕ) (c : FinishedCall) → IsSettledIn log seat c → IsSettledIn (log ++ x ∷ []) seat c
+settled_later log x seat c s =
     let p = begins log x in
     let long = begins_length (history_of log) (history_of (log ++ x ∷ [])) p in
-    let low = s.0 in
-    (omega arith, sequential_later (history_of log) (history_of (log ++ x ∷ [])) p c.point (Reporter c.number) c.call c.reply s.0 s.1)
+    let push = length_push log x in
+    let below = s.0 in
+    let low = s.1.0 in (
+      omega arith,
+      subst (λ (n : ℕ). (n ≤ length (history_of (log ++ x ∷ []))) × IsSequential (history_of (log ++ x ∷ [])) n (Reporter c.number) c.call c.reply) (sym (point_same log x seat c s.0))
+          (omega arith, sequential_later (history_of log) (history_of (log ++ x ∷ [])) p (point_at log seat c) (Reporter c.number) c.call c.reply s.1.0 s.1.1),
+    )
 
 -- if a reply to the caller of a pass is that of the board of one thread after k entries (IsSequential), it is so too for the reporter with
 -- the number of the pass, which is 0 for a reader
@@ -304,9 +314,9 @@ lies_low : (c : CallRecord) (k : ℕ) (reply : Reply) (n : ℕ) → LiesWithin c
 lies_low c k reply n s = search arith
 
 -- in a run of the machine a call of a pass's caller that has its reply has that of the board of one thread at its point
-settled_now : (steps : List Step) (w : MachineState) → Keeps steps w → (seat number k : ℕ) (call : Call) (point : ℕ) (reply : Reply)
+settled_now : (w : MachineState) → Keeps w → (seat number k : ℕ) (call : Call) (point : ℕ) (reply : Reply)
     → IsAnswered w.calls k (caller_for seat number) call point (Answers reply) → (point ≤ length w.history) × IsSequential w.history point (Reporter number) call reply
-settled_now steps w kept seat number k call point reply a =
+settled_now w kept seat number k call point reply a =
     let i = a.0 in
     let s = decided w.history i.record_is (kept.explained k i.record_is i.at) point reply a.1 in (
       lies_low i.record_is point reply (length w.history) s.0,
@@ -319,16 +329,17 @@ pub record Leads (readers : ℕ) (log : Log) : Type 0 where
   pub state : MachineState
   pub run : after_steps (machine_steps log) (initial_state (cast_for readers)) ≡ Some state
   pub history_is : state.history ≡ history_of log
-  pub settled : (seat k : ℕ) (c : FinishedCall) → IsCall log seat k c → IsSettled (history_of log) c
+  pub settled : (seat k : ℕ) (c : FinishedCall) → IsCall log seat k c → IsSettledIn log seat c
   pub each : (seat : ℕ) → seat < readers → HoldsAs (client_at seat log).held (held_by state.callers (caller_for seat (client_at seat log).number))
   unnumbered : (n : ℕ) → enlisted_by log < n → n ≤ 255 → held_by state.callers (Reporter n) ≡ Some Idle
 
 -- the state of the machine that a log leads to satisfies `Keeps`, the invariant of runs
-keeps_log : (readers : ℕ) (log : Log) (r : Leads readers log) → Keeps (machine_steps log) r.state
-keeps_log readers log r = run_kept (machine_steps log) [] (initial_state (cast_for readers)) r.state (kept_at_start (cast_for readers)) r.run
+pub keeps_log : (readers : ℕ) (log : Log) (r : Leads readers log) → Keeps r.state
+keeps_log readers log r = run_kept (machine_steps log) (initial_state (cast_for readers)) r.state (kept_at_start (cast_for readers)) r.run
 
 -- a log that leads to a state, and one step more of it
-module _ (readers : ℕ) (log : Log) (r : Leads readers log) (facts : LogFacts log) (x : Logged) where
+module _ (readers : ℕ) (log : Log) (r : Leads readers log) (facts : LogFacts log) (x : Logged) (place_is : x.step.place ≡ length log)
+    (at_is : x.step.at ≡ length (history_of log)) where
   abbrev d : ClientState
   d = client_at x.seat log
 
@@ -347,20 +358,25 @@ module _ (readers : ℕ) (log : Log) (r : Leads readers log) (facts : LogFacts l
       ∙ (run_append (machine_steps log) (own_steps log x) (initial_state (cast_for readers)) r.state r.run ∙ then)
 
   -- the finished calls of all passes, those of this one among them
-  settled_by : (d' : ClientState) → with_step d x.step ≡ d' → ((k : ℕ) (a : FinishedCall) → slice_get d'.calls k ≡ Some a → IsSettled (history_of log') a)
-      → (seat k : ℕ) (a : FinishedCall) → IsCall log' seat k a → IsSettled (history_of log') a
-  settled_by d' is own seat k a = by_seat log x (λ seat y. slice_get y.calls k ≡ Some a → IsSettled (history_of log') a) d' is (own k a)
-      (λ seat not at. settled_later log x a (r.settled seat k a at)) seat
+  settled_by : (d' : ClientState) → with_step d x.step ≡ d' → ((k : ℕ) (a : FinishedCall) → slice_get d'.calls k ≡ Some a → IsSettledIn log' x.seat a)
+      → (seat k : ℕ) (a : FinishedCall) → IsCall log' seat k a → IsSettledIn log' seat a
+  settled_by d' is own seat k a = by_seat log x (λ seat y. slice_get y.calls k ≡ Some a → IsSettledIn log' seat a) d' is (own k a)
+      (λ seat not at. settled_later log x seat a (r.settled seat k a at)) seat
 
-  settled_outcome : (o : Outcome) (l : Comes o) → Keeps (machine_steps log') l.last → l.last.history ≡ history_of log'
-      → (k : ℕ) (a : FinishedCall) → slice_get (with_outcome o x.step d).calls k ≡ Some a → IsSettled (history_of log') a
-  settled_outcome (GoesOn held) l kept history k a at = settled_later log x a (r.settled x.seat k a at)
+  settled_outcome : (o : Outcome) (l : Comes o) → Keeps l.last → l.last.history ≡ history_of log'
+      → (k : ℕ) (a : FinishedCall) → slice_get (with_outcome o x.step d).calls k ≡ Some a → IsSettledIn log' x.seat a
+  settled_outcome (GoesOn held) l kept history k a at = settled_later log x x.seat a (r.settled x.seat k a at)
   settled_outcome (Answers reply) l kept history k a at =
       let new = call_answered reply x.step d in
+      let push = length_push log x in
       elim (at_either d.calls new k a at) [
-        | inl u ↦ settled_later log x a (r.settled x.seat k a u.1)
-        | inr u ↦ subst (IsSettled (history_of log')) u.1 (subst (λ (h : List Entry). IsSettled h new) history
-            (settled_now (machine_steps log') l.last kept x.seat d.number l.place new.call new.point reply l.answered))
+        | inl u ↦ settled_later log x x.seat a (r.settled x.seat k a u.1)
+        | inr u ↦ subst (IsSettledIn log' x.seat) u.1 (
+          omega arith,
+          subst (λ (n : ℕ). (n ≤ length (history_of log')) × IsSequential (history_of log') n (Reporter d.number) new.call reply) (sym (point_new log x place_is at_is reply))
+              (subst (λ (h : List Entry). (point_of d.held x.step.at ≤ length h) × IsSequential h (point_of d.held x.step.at) (Reporter d.number) new.call reply) history
+              (settled_now l.last kept x.seat d.number l.place new.call (point_of d.held x.step.at) reply l.answered)),
+        )
       ]
 
   -- the caller of a seat holds then what its pass holds
@@ -371,11 +387,11 @@ module _ (readers : ℕ) (log : Log) (r : Leads readers log) (facts : LogFacts l
   leads_turn : (o : Outcome) → Comes o → length (enlists x.step.target) ≡ 0 → with_step d x.step ≡ with_outcome o x.step d → Leads readers log'
   leads_turn o l none does =
       let count : enlisted_by log' ≡ enlisted_by log = let e = enlisted_more log x in omega arith in
-      let kept = run_kept (machine_steps log') [] (initial_state (cast_for readers)) l.last (kept_at_start (cast_for readers)) (run_on l.last l.run) in
+      let kept = run_kept (machine_steps log') (initial_state (cast_for readers)) l.last (kept_at_start (cast_for readers)) (run_on l.last l.run) in
       let history : l.last.history ≡ history_of log' =
       l.history_is ∙ (ap (λ (h : List Entry). h ++ entry_list x.step.entry) r.history_is ∙ sym (history_more log x)) in
       let after = outcome_held o x.step d in
-      let own : HoldsAs (held_after o) (held_by l.last.callers c) = holds_then (machine_steps log') l.last kept c l.place o l.holds in
+      let own : HoldsAs (held_after o) (held_by l.last.callers c) = holds_then l.last kept c l.place o l.holds in
       record {
         state = l.last;
         run = run_on l.last l.run;
@@ -401,7 +417,7 @@ module _ (readers : ℕ) (log : Log) (r : Leads readers log) (facts : LogFacts l
     run = run_on r.state (ap (λ (l : List Step). after_steps l r.state) silent);
     history_is = r.history_is ∙ sym (history_same log x no_entry);
     settled = settled_by (with_step d x.step) refl
-        (λ k a at. settled_later log x a (r.settled x.seat k a (ap (λ (l : List FinishedCall). slice_get l k) (sym calls_are) ∙ at)));
+        (λ k a at. settled_later log x x.seat a (r.settled x.seat k a (ap (λ (l : List FinishedCall). slice_get l k) (sym calls_are) ∙ at)));
     each = by_seat log x (EachHolds r.state) (with_step d x.step) refl own (λ seat not below. r.each seat below);
     unnumbered = λ n above few. r.unnumbered n (omega arith) few;
   }
@@ -412,7 +428,7 @@ placed seat target place at entry = record { seat = seat; step = record { target
 
 -- each step of a log
 module _ (readers : ℕ) (log : Log) (r : Leads readers log) (is_log : IsLog log) (follows : FollowsProtocol log) (seat : ℕ) (seated : seat < readers) (place at : ℕ)
-    (entry : Option Entry) (now : at ≡ length (history_of log)) where
+    (entry : Option Entry) (here : place ≡ length log) (now : at ≡ length (history_of log)) where
   abbrev number : ℕ
   number = (client_at seat log).number
 
@@ -435,12 +451,12 @@ module _ (readers : ℕ) (log : Log) (r : Leads readers log) (is_log : IsLog log
     turn : (h : Pending) → held ≡ h → (entries : List Entry) → entry_list entry ≡ entries → Given caller h entries
         → Leads readers (log ++ placed seat (Match act game found) place at entry ∷ [])
     turn h is_held entries made l =
-        leads_turn readers log r (logs_facts log is_log follows) (placed seat (Match act game found) place at entry) (outcome number held (Match act game found) at)
+        leads_turn readers log r (logs_facts log is_log follows) (placed seat (Match act game found) place at entry) here now (outcome number held (Match act game found) at)
         (subst (λ (k : Pending). Given caller k (entry_list entry)) (sym is_held) (subst (Given caller h) (sym made) l)) refl refl
 
   -- a step on a match word that the protocol lets come next
   module _ (game found : ℕ) (is : IsMatch game) (there : found ≡ word_of (match_after (history_of log) game)) where
-    kept : Keeps (machine_steps log) r.state
+    kept : Keeps r.state
     kept = keeps_log readers log r
 
     there_now : found ≡ word_of (match_after r.state.history game)
@@ -455,7 +471,7 @@ module _ (readers : ℕ) (log : Log) (r : Leads readers log) (is_log : IsLog log
     leads_look e nothing of reporter none =
         let same = reporter_is seat number reporter in
         turn (Look e) game found NoCall nothing [] (ap entry_list none) (subst (λ (c : Caller). Given (Look e) game found c NoCall []) (sym same)
-        (look_gives (machine_steps log) r.state kept number game found at is there_now at_now e reporter of
+        (look_gives r.state kept number game found at is there_now at_now e reporter of
         (ap (held_by r.state.callers) (sym same) ∙ holds_now NoCall nothing)))
 
     leads_swap : (h : Pending) → held ≡ h → game ≡ next_game Swap h → entry ≡ entry_by number h (Match Swap game found)
@@ -466,18 +482,18 @@ module _ (readers : ℕ) (log : Log) (r : Leads readers log) (is_log : IsLog log
         let same = reporter_is seat number offers.reporter in
         let entries = entry_list (cond (found == old) (Some (entry_of number e)) None) in
         turn Swap game found (Holding e old new) is_held entries (ap entry_list made) (subst (λ (c : Caller). Given Swap game found c (Holding e old new) entries) (sym same)
-        (swap_gives (machine_steps log) r.state kept number game found at is there_now at_now e old new u.0 next (ap (held_by r.state.callers) (sym same) ∙ u.1)))
+        (swap_gives r.state kept number game found at is there_now at_now e old new u.0 next (ap (held_by r.state.callers) (sym same) ∙ u.1)))
     leads_swap h is_held next made = absurd (let low = is.0 in omega arith)
 
     leads_first : (h : Pending) → held ≡ h → game ≡ next_game First h → entry ≡ None
         → Leads readers (log ++ placed seat (Match First game found) place at entry ∷ [])
     leads_first NoCall is_held next none =
         turn First game found NoCall is_held [] (ap entry_list none)
-        (first_begins (machine_steps log) r.state kept number game found at is there_now at_now caller next (holds_now NoCall is_held))
+        (first_begins r.state kept number game found at is there_now at_now caller next (holds_now NoCall is_held))
     leads_first (Collecting ws) is_held next none =
         let u = holds_now (Collecting ws) is_held in
         turn First game found (Collecting ws) is_held [] (ap entry_list none)
-        (first_gives (machine_steps log) r.state kept number game found at is there_now at_now caller ws u.0 next u.1)
+        (first_gives r.state kept number game found at is there_now at_now caller ws u.0 next u.1)
     leads_first h is_held next none = absurd (let low = is.0 in omega arith)
 
     leads_second : (h : Pending) → held ≡ h → game ≡ next_game Second h → entry ≡ None
@@ -485,7 +501,7 @@ module _ (readers : ℕ) (log : Log) (r : Leads readers log) (is_log : IsLog log
     leads_second (Checking ws checked point) is_held next none =
         let u = holds_now (Checking ws checked point) is_held in
         turn Second game found (Checking ws checked point) is_held [] (ap entry_list none)
-        (second_gives (machine_steps log) r.state kept number game found at is there_now at_now caller ws checked point u.0 next u.1)
+        (second_gives r.state kept number game found at is there_now at_now caller ws checked point u.0 next u.1)
     leads_second h is_held next none = absurd (let low = is.0 in omega arith)
 
   -- a load of the number of reporters leaves the call as it is
@@ -504,8 +520,8 @@ module _ (readers : ℕ) (log : Log) (r : Leads readers log) (is_log : IsLog log
       let does : with_step (client_at seat log) x.step ≡ with_outcome (GoesOn held) x.step (client_at seat log) =
       ap (λ (o : Outcome). with_outcome o x.step (client_at seat log)) (count_does found held) in
       let count = enlisted_more log x in
-      leads_same readers log r (logs_facts log is_log follows) x refl (is ∙ count_none held number found) (ap (λ (y : ClientState). y.calls) does) (omega arith)
-      (subst (EachHolds readers log r (logs_facts log is_log follows) x r.state seat) (sym does) (r.each seat))
+      leads_same readers log r (logs_facts log is_log follows) x here now refl (is ∙ count_none held number found) (ap (λ (y : ClientState). y.calls) does) (omega arith)
+      (subst (EachHolds readers log r (logs_facts log is_log follows) x here now r.state seat) (sym does) (r.each seat))
   leads_by (Whole shown) there next is = absurd next
   leads_by (Enlists found) there next is =
       let x = placed seat (Enlists found) place at entry in
@@ -514,7 +530,7 @@ module _ (readers : ℕ) (log : Log) (r : Leads readers log) (is_log : IsLog log
       let count = enlisted_more log x in
       let free = r.unnumbered (found + 1) (omega arith) (omega arith) in
       let same = reporter_is seat (found + 1) (omega arith, omega arith) in
-      leads_same readers log r (logs_facts log is_log follows) x refl (is ∙ enlist_none held number found) refl (omega arith)
+      leads_same readers log r (logs_facts log is_log follows) x here now refl (is ∙ enlist_none held number found) refl (omega arith)
       (λ below. subst (λ (h : Pending). HoldsAs h (held_by r.state.callers (caller_for seat (found + 1)))) (sym next.0) (ap (held_by r.state.callers) same ∙ free))
 
 -- each caller in a list of n idle ones is idle
@@ -551,7 +567,7 @@ leads_all readers log =
     let long = length_push xs x in
     let r = was g (λ k d l. subst (λ (y : Logged). y.seat < readers) (get_or_append_left xs (x ∷ []) d k l) (all k d (omega arith))) in
     leads_by readers xs r before g x.seat (subst (λ (y : Logged). y.seat < readers) (get_or_push xs x x (length xs) refl) (all (length xs) x (omega arith)))
-    x.step.place x.step.at x.step.entry may.place.1 x.step.target may.there p.next p.entry)
+    x.step.place x.step.at x.step.entry may.place.0 may.place.1 x.step.target may.there p.next p.entry)
     log
 
 -- each log that follows the protocol, with seats below `readers`, is a run of the machine with so many readers
@@ -565,7 +581,6 @@ logs_run readers log is follows seated =
       history_is = l.history_is;
       words_are = kept.words ∙ ap board_of l.history_is;
       each = l.each;
-      linearizable = subst (λ (h : List Entry). IsLinearizableRun (machine_steps log) h l.state.calls) l.history_is (linearizable (machine_steps log) l.state kept);
     }
 
 -- there is a number greater than each seat that took a step in a log

@@ -13,9 +13,9 @@ use Rattle.ucl_steps.specs.declared.machine.Held.TheVariants as has
 use Rattle.ucl_steps.proofs.Runs.{Keeps, word_now, kept_at_start, run_kept}
 use Rattle.ucl_steps.proofs.Calls.{in_call}
 
--- a state that enabled steps lead to from the start satisfies `Keeps`, the invariant of runs of the machine, with these steps
-pub reached_kept : (w : MachineState) (r : IsReachable w) → Keeps r.1 w
-reached_kept w r = run_kept r.1 [] (initial_state r.0) w (kept_at_start r.0) r.2
+-- a state that enabled steps lead to from the start satisfies `Keeps`, the invariant of runs of the machine
+pub reached_kept : (w : MachineState) (r : IsReachable w) → Keeps w
+reached_kept w r = run_kept r.1 (initial_state r.0) w (kept_at_start r.0) r.2
 
 -- a state that steps lead to has a history no longer than the greatest version
 pub reached_short : (w : MachineState) → IsReachable w → length w.history ≤ max_version
@@ -23,7 +23,7 @@ reached_short w r = (versions w.history (reached_kept w r).legal).1
 
 -- in a state that steps lead to the word of each match is valid
 pub word_is : (w : MachineState) (r : IsReachable w) (g : ℕ) → IsMatch g → IsWord (word_at w.words g)
-word_is w r g within = let k = reached_kept w r in record { of = match_after w.history g; valid = match_valid g w.history k.legal; packed = sym (word_now r.1 w k g within) }
+word_is w r g within = let k = reached_kept w r in record { of = match_after w.history g; valid = match_valid g w.history k.legal; packed = sym (word_now w k g within) }
 
 -- to change element k of a list by f is to set it to f of what it was
 pub change_at-set : {X : Type 0} (k : ℕ) (f : X → X) (xs : List X) (d : X) → k < length xs → change_at k f xs ≡ set xs k (f (get_or xs k d))

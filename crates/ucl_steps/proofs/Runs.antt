@@ -1,7 +1,7 @@
 -- What every step of the machine keeps, and so every run: its history explains its calls.
-use Rattle.ucl_steps.proofs.Common.{◌≡◌, ◌≢◌, ℕ, zero, suc, List, ◌∷◌, ◌++◌, length, map, Option, Some, None, ◌⊎◌, inl, inr, refl, sym, ap, ◌∙◌, subst, arith}
-use Rattle.ucl_steps.proofs.Common.{[], slice_get, IsSome, option_map, none-some, same_Some, slice_get-map, false≢true, map-append, length-map, Entry}
-use Rattle.ucl_steps.proofs.Common.{board_of, IsLegal, IsPrefix, at_below, at_longer, at_end, at_either, begins_length, begins_same, Caller, Call, Step}
+use Rattle.ucl_steps.proofs.Common.{◌≡◌, ◌≢◌, ℕ, zero, suc, List, ◌∷◌, ◌++◌, length, Option, Some, None, inl, inr, refl, sym, ap, ◌∙◌, subst, arith}
+use Rattle.ucl_steps.proofs.Common.{[], slice_get, IsSome, none-some, same_Some, false≢true, Entry}
+use Rattle.ucl_steps.proofs.Common.{board_of, IsLegal, IsPrefix, at_longer, at_end, at_either, begins_length, begins_same, Caller, Call, Step}
 use Rattle.ucl_steps.proofs.Common.{Begin, End, CallRecord, Reply, CallerState, Idle, Answered, Callers, MachineState, held_by, set_held, with_held}
 use Rattle.ucl_steps.proofs.Common.{change_at, with_end, legal_take, versions, word_after, ◌+◌, ◌-◌, ◌<◌, ◌≤◌, ◌==◌, Bool, true, false, cond}
 use Rattle.ucl_steps.proofs.Common.{take, Err, le_refl, get_or, slice_index, slice_set, cond_some, cases_lt, eqb-true, eqb-false, and_parts, leb-true}
@@ -9,23 +9,23 @@ use Rattle.ucl_steps.proofs.Common.{length_push, get_or_append_left, get_or_push
 use Rattle.ucl_steps.proofs.Common.{Refusal, Stale, refusal_of, after, word_of, record_at, word_at, version_of, match_after, MayFollow, sequential_reply}
 use Rattle.ucl_steps.proofs.Common.{attempted, reading_of, same_number, may_attempt, Reporter, Event, Reading, Look, Swap, First, Second, Accepted, Refused}
 use Rattle.ucl_steps.proofs.Common.{Copied, Holding, Collecting, Checking, GoesOn, Answers, by_rules, may_begin, after_begin, after_step_holding, caller_of}
-use Rattle.ucl_steps.proofs.Common.{Wanting, Within, with_reply, after_outcome, stored, state_after_first, after_reply, may_none, append_assoc, append-nil}
-use Rattle.ucl_steps.proofs.Common.{◌↔◌, IfSome, replicate, option_and_then_some, Cast, initial_state, after_step, after_steps, EndsAt}
-use Rattle.ucl_steps.proofs.Common.{BeginsAt, EndedBySteps, EndsAs, FinishedCall, IsReplied, accepts, IsExplained, MadeBy, caller_and_call, caller_number, cases_order}
-use Rattle.ucl_steps.proofs.Common.{IsLinearizableRun, RunsAreLinearizable, WordsAreOfTheHistory}
-use Rattle.ucl_steps.proofs.Histories.{get_some, get-change_at, change_at_here, change_at_else, map_unseen, map-change_at, same_caller, held_here, held_else}
-use Rattle.ucl_steps.proofs.Histories.{if_some, number_expected, legal_snoc, read_back, number_next, squeezed, board_get, board_next, board_from}
+use Rattle.ucl_steps.proofs.Common.{Wanting, Within, with_reply, after_outcome, stored, state_after_first, after_reply, may_none}
+use Rattle.ucl_steps.proofs.Common.{replicate, option_and_then_some, Cast, initial_state, after_step, after_steps, WordsAreOfTheHistory}
+use Rattle.ucl_steps.proofs.Histories.{get-change_at, change_at_here, change_at_else, same_caller, held_here, held_else}
+use Rattle.ucl_steps.proofs.Histories.{number_expected, legal_snoc, read_back, number_next, squeezed, board_get, board_next, board_from}
 use Rattle.ucl_steps.proofs.Calls.{Explains, IsSequential, in_call, Sees, Knows, sees_later, explained_later, Asks, Offers, Loaded, AreAt, Checks}
-use Rattle.ucl_steps.proofs.Calls.{EntryHasOneCall, IsDecided, IsMaker, and_some, by_number, decided, explained_by, has_reply, is_accepted, lies, linear}
-use Rattle.ucl_steps.proofs.Calls.{made_within, once_accepted, once_begun, once_kept, once_refused, some_and, whole}
-use Rattle.ucl_steps.proofs.Turns.{Time, Turns, IsInner, turns_inner, turns_begin, turns_end, ended_at, told, EndedBy, turns_none, earlier_place, one_place, place_of}
 use Rattle.ucl_board.proofs.HistoryTheorems.{is_stale, board_none}
 use Rattle.ucl_steps.specs.declared.trace.Trace.{Trace}
 use Rattle.ucl_steps.specs.Traces.{IsLeftBy}
 
--- who made a call, which, and when it began and ended
+-- who made a call, and when it began and ended
+pub record Time : Type 0 where
+  pub caller : Caller
+  pub begun : ℕ
+  pub ended : Option ℕ
+
 abbrev pub time_of : CallRecord → Time
-time_of c = record { caller = c.caller; call = c.call; begun = c.begun; ended = c.ended }
+time_of c = record { caller = c.caller; begun = c.begun; ended = c.ended }
 
 -- caller c is in call k, by what it holds
 pub record IsHeld (cs : Callers) (c : Caller) (k : ℕ) : Type 0 where
@@ -33,14 +33,13 @@ pub record IsHeld (cs : Callers) (c : Caller) (k : ℕ) : Type 0 where
   pub held_is : held_by cs c ≡ Some holds
   pub in_it : in_call holds ≡ Some k
 
--- the invariant of runs of the machine, for the state w after these steps: the history is legal, gives the words, and explains the calls,
--- which are in the order of time; each entry is of one call; and a caller is in a call exactly if it is its own and has not ended
-pub record Keeps (steps : List Step) (w : MachineState) : Type 0 where
+-- the invariant of runs of the machine, for the state w that steps lead to: the history is legal, gives the words, and explains the calls,
+-- none of which began later; and a caller is in a call exactly if it is its own and has not ended
+pub record Keeps (w : MachineState) : Type 0 where
   pub legal : IsLegal w.history
   pub words : w.words ≡ board_of w.history
   pub explained : (i : ℕ) (a : CallRecord) → slice_get w.calls i ≡ Some a → Explains w.history a a.point a.reply
-  pub once : EntryHasOneCall w.history w.calls
-  pub turns : Turns steps (length w.history) (map time_of w.calls)
+  pub past : (i : ℕ) (a : CallRecord) → slice_get w.calls i ≡ Some a → a.begun ≤ length w.history
   pub knows : (c : Caller) (x : CallerState) (k : ℕ) → held_by w.callers c ≡ Some x → in_call x ≡ Some k → Knows w.history w.calls c x k
   pub unended : (i : ℕ) (a : CallRecord) → slice_get w.calls i ≡ Some a → a.ended ≡ None → IsHeld w.callers a.caller i
 
@@ -50,16 +49,12 @@ change_at_same k [] = refl
 change_at_same zero (a ∷ xs) = refl
 change_at_same (suc k) (a ∷ xs) = ap (λ (z : List CallRecord). a ∷ z) (change_at_same k xs)
 
--- an option has a value, or is None
-some_or_none : (o : Option ℕ) → IsSome o ⊎ (o ≡ None)
-some_or_none o = search arith
-
 -- a call that a history explains, and that has its reply, is still explained if it ends now
 explained_closed : (h : List Entry) (c : CallRecord) (p : Option ℕ) (r : Option Reply) → Explains h c p r → IsSome r → Explains h (with_end (length h) c) p r
 explained_closed h c p r s some = search (arith, false≢true)
 
 -- caller c, which holds x, takes one more step
-module _ (steps : List Step) (w : MachineState) (kept : Keeps steps w) (c : Caller) (x : CallerState) (holds : held_by w.callers c ≡ Some x) where
+module _ (w : MachineState) (kept : Keeps w) (c : Caller) (x : CallerState) (holds : held_by w.callers c ≡ Some x) where
   -- what callers know, where this one then holds y, and knows what that says
   knows_all : (h' : List Entry) (calls : List CallRecord) (y : CallerState) → IsPrefix w.history h'
       → ((d : Caller) (k : ℕ) (b : CallRecord) → d ≢ c → slice_get w.calls k ≡ Some b → b.caller ≡ d → slice_get calls k ≡ Some b)
@@ -86,45 +81,48 @@ module _ (steps : List Step) (w : MachineState) (kept : Keeps steps w) (c : Call
     other_call d i b not at is same = search (arith, same_Some b (kept.knows c x k holds within).call (sym at ∙ (ap (slice_get w.calls) same ∙ (kept.knows c x k holds within).at)))
 
     -- a step within a call keeps what a run keeps, if it changes only the words, the history and this call
-    pub moved : (s : Step) (y : CallerState) (h' : List Entry) (words' : List ℕ) (f : CallRecord → CallRecord) → IsInner s → IsPrefix w.history h' → IsLegal h' → words' ≡ board_of h'
-        → ((a : CallRecord) → time_of (f a) ≡ time_of a) → EntryHasOneCall h' (change_at k f w.calls)
+    pub moved : (y : CallerState) (h' : List Entry) (words' : List ℕ) (f : CallRecord → CallRecord) → IsPrefix w.history h' → IsLegal h' → words' ≡ board_of h'
+        → ((a : CallRecord) → time_of (f a) ≡ time_of a)
         → Explains h' (f mine.call) (f mine.call).point (f mine.call).reply × Sees h' (f mine.call) y → in_call y ≡ Some k
-        → Keeps (steps ++ s ∷ []) (with_held y c (record w { words = words'; history = h'; calls = change_at k f w.calls }))
-    moved s y h' words' f inner b legal words timed once told inside =
+        → Keeps (with_held y c (record w { words = words'; history = h'; calls = change_at k f w.calls }))
+    moved y h' words' f b legal words timed told inside =
         let m = kept.knows c x k holds within in
         let calls' = change_at k f w.calls in
         record {
           legal = legal;
           words = words;
           explained = λ i a at. search (arith, get-change_at k f w.calls i a at, same_Some, told.0, explained_later w.history h' b, kept.explained i);
-          once = once;
-          turns = search (arith, map_unseen, turns_inner, begins_length);
+          past = λ i a at. let long = begins_length w.history h' b in elim (get-change_at k f w.calls i a at) [
+            | inl u ↦ let begun = ap (λ (t : Time). t.begun) (timed u.1) in let is = ap (λ (z : CallRecord). z.begun) u.3 in let low = kept.past k u.1 u.2 in omega arith
+            | inr u ↦ let low = kept.past i a u.1 in omega arith
+          ];
           knows = knows_all h' calls' y b (λ e j a other there own. change_at_else k f w.calls j a (other_call e j a other there own) there) (search (arith, same_Some, change_at_here));
           unended = λ i a at none. search (arith, get-change_at, held_here, same_Some, still_held);
         }
 
     -- one step that leaves the calls
-    pub stayed : (s : Step) (y : CallerState) → IsInner s → Sees w.history mine.call y → in_call y ≡ Some k → Keeps (steps ++ s ∷ []) (with_held y c w)
-    stayed s y inner told inside =
-        subst (λ (cs : List CallRecord). Keeps (steps ++ s ∷ []) (with_held y c (record w { calls = cs }))) (change_at_same k w.calls)
-        (moved s y w.history w.words (λ a. a) inner (begins_same w.history) kept.legal kept.words (λ a. refl) (subst (EntryHasOneCall w.history) (sym (change_at_same k w.calls)) kept.once)
+    pub stayed : (y : CallerState) → Sees w.history mine.call y → in_call y ≡ Some k → Keeps (with_held y c w)
+    stayed y told inside =
+        subst (λ (cs : List CallRecord). Keeps (with_held y c (record w { calls = cs }))) (change_at_same k w.calls)
+        (moved y w.history w.words (λ a. a) (begins_same w.history) kept.legal kept.words (λ a. refl)
         (kept.explained k mine.call mine.at, told) inside)
 
     -- the end of a call
     pub ended : Sees w.history (kept.knows c x k holds within).call (Answered k)
-        → Keeps (steps ++ End c ∷ []) (with_held Idle c (record w { calls = change_at k (with_end (length w.history)) w.calls }))
+        → Keeps (with_held Idle c (record w { calls = change_at k (with_end (length w.history)) w.calls }))
     ended answered =
         let m = kept.knows c x k holds within in
         let n = length w.history in
         let f = with_end n in
         let calls' = change_at k f w.calls in
-        let here : slice_get (map time_of w.calls) k ≡ Some (time_of m.call) = slice_get-map time_of w.calls k ∙ ap (option_map time_of) m.at in
         record {
           legal = kept.legal;
           words = kept.words;
           explained = search (arith, get-change_at, same_Some, explained_closed);
-          once = once_kept w.calls k f w.history (λ a. refl) kept.once;
-          turns = search (arith, ended_at n, turns_end steps n (map time_of w.calls) c k (time_of m.call) here m.caller m.unended kept.turns, map-change_at);
+          past = λ i a at. elim (get-change_at k f w.calls i a at) [
+            | inl u ↦ let is = ap (λ (z : CallRecord). z.begun) u.3 in let low = kept.past k u.1 u.2 in omega arith
+            | inr u ↦ kept.past i a u.1
+          ];
           knows = knows_all w.history calls' Idle (begins_same w.history) (λ e j a other there own. change_at_else k f w.calls j a (other_call e j a other there own) there)
               (λ j at. absurd (none-some j at));
           unended = λ i a at none. search (arith, get-change_at, none-some, still_held, same_Some);
@@ -133,31 +131,22 @@ module _ (steps : List Step) (w : MachineState) (kept : Keeps steps w) (c : Call
   -- a call begins
   pub begun : x ≡ Idle → (call : Call) (y : CallerState) → Sees w.history (record { caller = c; call = call; begun = length w.history; point = None; reply = None; ended = None }) y
       → in_call y ≡ Some (length w.calls)
-      → Keeps (steps ++ Begin c call ∷ []) (with_held y c (record w { calls = w.calls ++ record { caller = c; call = call; begun = length w.history; point = None; reply = None; ended = None } ∷ [] }))
+      → Keeps (with_held y c (record w { calls = w.calls ++ record { caller = c; call = call; begun = length w.history; point = None; reply = None; ended = None } ∷ [] }))
   begun idle call y sees inside =
       let n = length w.history in
       let new : CallRecord = record { caller = c; call = call; begun = n; point = None; reply = None; ended = None } in
       let calls' = w.calls ++ new ∷ [] in
-      let closed_all : (i : ℕ) (a : CallRecord) → slice_get w.calls i ≡ Some a → a.caller ≡ c → a.ended ≡ None → ⊥ = λ i a at own none.
-      search (arith, kept.unended i a at none, own, none-some, same_Some) in
       record {
         legal = kept.legal;
         words = kept.words;
         explained = search (arith, at_either);
-        once = once_begun w.history w.calls new refl kept.once;
-        turns = subst (Turns (steps ++ Begin c call ∷ []) n) (sym (map-append time_of w.calls (new ∷ [])))
-            (turns_begin steps n (map time_of w.calls) c call (λ i t at own. timed_ended i t at own closed_all) kept.turns);
+        past = λ i a at. elim (at_either w.calls new i a at) [
+          | inl u ↦ kept.past i a u.1
+          | inr u ↦ subst (λ (z : CallRecord). z.begun ≤ n) u.1 (le_refl n)
+        ];
         knows = knows_all w.history calls' y (begins_same w.history) (λ e j a other there own. at_longer w.calls (new ∷ []) j a there) (search (arith, same_Some, at_end));
         unended = λ i a at none. search (arith, at_either, in_call, held_here, still_held, none-some);
       }
-    where
-      timed_ended : (i : ℕ) (t : Time) → slice_get (map time_of w.calls) i ≡ Some t → t.caller ≡ c → ((i : ℕ) (a : CallRecord) → slice_get w.calls i ≡ Some a → a.caller ≡ c → a.ended ≡ None → ⊥)
-          → IsSome t.ended
-      timed_ended i t at own closed_all =
-          let below = at_below (map time_of w.calls) i t at in
-          let count = length-map w.calls time_of in
-          let a = get_some w.calls i (omega arith) in
-          search (arith, slice_get-map time_of w.calls i, a, at, own, closed_all i a.0 a.1, some_or_none t.ended, same_Some)
 
 -- the entry of this event by reporter r
 abbrev entered : EventCall → ℕ → Entry
@@ -173,7 +162,7 @@ sequential_reading : (h : List Entry) (k : ℕ) (c : Caller) (board : List ℕ) 
 sequential_reading h k c board version same is = search arith
 
 -- a state that has what a run keeps
-module _ (steps : List Step) (w : MachineState) (kept : Keeps steps w) where
+module _ (w : MachineState) (kept : Keeps w) where
   abbrev now : ℕ
   now = length w.history
 
@@ -184,29 +173,28 @@ module _ (steps : List Step) (w : MachineState) (kept : Keeps steps w) where
   record_now : (g : ℕ) → (1 ≤ g) × (g ≤ 12) → record_at (word_at w.words g) ≡ match_after w.history g
   record_now g within = ap record_at (word_now g within) ∙ read_back w.history g kept.legal
 
-  begun_before : (k : ℕ) (a : CallRecord) → slice_get w.calls k ≡ Some a → a.begun ≤ now
-  begun_before k a at = (kept.turns.past k (time_of a) (slice_get-map time_of w.calls k ∙ ap (option_map time_of) at)).0
+  pub begun_before : (k : ℕ) (a : CallRecord) → slice_get w.calls k ≡ Some a → a.begun ≤ now
+  begun_before k a at = kept.past k a at
 
   -- a refusal at the present place
-  refused_kept : (s : Step) (c : Caller) (k : ℕ) (e : EventCall) (x : CallerState) (holds : held_by w.callers c ≡ Some x) (within : in_call x ≡ Some k) (refusal : Refusal) → IsInner s
+  refused_kept : (c : Caller) (k : ℕ) (e : EventCall) (x : CallerState) (holds : held_by w.callers c ≡ Some x) (within : in_call x ≡ Some k) (refusal : Refusal)
       → Asks (kept.knows c x k holds within).call e
-      → refusal_of (match_after w.history e.game) e.expected e.kind ≡ Some refusal → Keeps (steps ++ s ∷ []) (after_reply c k now (Refused refusal) w)
-  refused_kept s c k e x holds within refusal inner asks refuses =
+      → refusal_of (match_after w.history e.game) e.expected e.kind ≡ Some refusal → Keeps (after_reply c k now (Refused refusal) w)
+  refused_kept c k e x holds within refusal asks refuses =
       let m = kept.knows c x k holds within in
       let h = w.history in
       let f = with_reply now (Refused refusal) in
       let base : sequential_reply (take now h) e ≡ Err refusal = search (arith, take-length, refuses) in
       let early = begun_before k m.call m.at in
       let told : Explains h (f m.call) (Some now) (Some (Refused refusal)) = search (arith, early, le_refl, base, m.unended, asks) in
-      moved steps w kept c x holds k within s (Answered k) h w.words f inner (begins_same h) kept.legal kept.words (λ a. refl)
-      (once_refused w.calls k f m.call m.at asks.reply h refl kept.once) (told, refl) refl
+      moved w kept c x holds k within (Answered k) h w.words f (begins_same h) kept.legal kept.words (λ a. refl) (told, refl) refl
 
   -- a look keeps what a run keeps, whether the rules refuse the event or not
   look_kept : (n k : ℕ) (e : EventCall) (holds : held_by w.callers (Reporter n) ≡ Some (Wanting k e)) (o : Option Refusal) → refusal_of (record_at (word_at w.words e.game)) e.expected e.kind ≡ o
-      → Keeps (steps ++ Look (Reporter n) ∷ []) (after_outcome (Reporter n) k now (by_rules n e (word_at w.words e.game) o) w)
+      → Keeps (after_outcome (Reporter n) k now (by_rules n e (word_at w.words e.game) o) w)
   look_kept n k e holds (Some refusal) is =
       let m = kept.knows (Reporter n) (Wanting k e) k holds refl in
-      refused_kept (Look (Reporter n)) (Reporter n) k e (Wanting k e) holds refl refusal tt m.sees
+      refused_kept (Reporter n) k e (Wanting k e) holds refl refusal m.sees
       (ap (λ (z : MatchRecord). refusal_of z e.expected e.kind) (sym (record_now e.game m.sees.game)) ∙ is)
   look_kept n k e holds None is =
       let m = kept.knows (Reporter n) (Wanting k e) k holds refl in
@@ -215,12 +203,12 @@ module _ (steps : List Step) (w : MachineState) (kept : Keeps steps w) where
       let r_is : m.sees.reporter ≡ n = same_reporter m.sees.reporter n (sym m.sees.caller ∙ m.caller) in
       let offers : Offers w.history m.call e word new =
       record { asks = m.sees; place = now; within = le_refl now; found = search (arith, word_now e.game m.sees.game, take-length); accepted = is; next = search (arith, r_is) } in
-      stayed steps w kept (Reporter n) (Wanting k e) holds k refl (Look (Reporter n)) (Within k (Holding e word new)) tt offers refl
+      stayed w kept (Reporter n) (Wanting k e) holds k refl (Within k (Holding e word new)) offers refl
 
   -- the exchange of a report
   module _ (n k : ℕ) (e : EventCall) (old new : ℕ) (holds : held_by w.callers (Reporter n) ≡ Some (Within k (Holding e old new))) where
     -- an exchange that finds another word keeps what a run keeps, and leaves the report stale
-    missed : (word_at w.words e.game == old) ≡ false → Keeps (steps ++ Swap (Reporter n) ∷ []) (after_reply (Reporter n) k now (Refused (Stale (record_at (word_at w.words e.game)).number)) w)
+    missed : (word_at w.words e.game == old) ≡ false → Keeps (after_reply (Reporter n) k now (Refused (Stale (record_at (word_at w.words e.game)).number)) w)
     missed differs =
         let m = kept.knows (Reporter n) (Within k (Holding e old new)) k holds refl in
         let o = m.sees in
@@ -257,7 +245,7 @@ module _ (steps : List Step) (w : MachineState) (kept : Keeps steps w) where
       new_number = ap (λ (z : ℕ). (record_at z).number) new_is ∙ number_next w.history (entered e n) kept.legal may_follow
 
       -- an exchange that finds the word it expects keeps what a run keeps, and adds its entry
-      won : Keeps (steps ++ Swap (Reporter n) ∷ []) (after_reply (Reporter n) k now (Accepted (record { number = (record_at new).number })) (stored n e new w))
+      won : Keeps (after_reply (Reporter n) k now (Accepted (record { number = (record_at new).number })) (stored n e new w))
       won =
           let m = kept.knows (Reporter n) (Within k (Holding e old new)) k holds refl in
           let o = m.sees in
@@ -274,12 +262,11 @@ module _ (steps : List Step) (w : MachineState) (kept : Keeps steps w) where
           let long = length_push h (entered e n) in
           let early = begun_before k m.call m.at in
           let told : Explains h' (f m.call) (Some now) (Some reply) = search (arith, early, long, base, m.unended, m.caller, o.asks) in
-          moved steps w kept (Reporter n) (Within k (Holding e old new)) holds k refl (Swap (Reporter n)) (Answered k) h' (slice_set w.words (g - 1) new) f tt (entered e n ∷ [], refl) legal words
-          (λ a. refl)
-          (once_accepted w.calls k f m.call m.at o.asks.reply h (entered e n) refl refl (made_within h w.calls kept.explained) kept.once) (told, refl) refl
+          moved w kept (Reporter n) (Within k (Holding e old new)) holds k refl (Answered k) h' (slice_set w.words (g - 1) new) f (entered e n ∷ [], refl) legal words
+          (λ a. refl) (told, refl) refl
 
     -- the exchange of a report keeps what a run keeps
-    swap_kept : (b : Bool) → (word_at w.words e.game == old) ≡ b → Keeps (steps ++ Swap (Reporter n) ∷ []) (after_reply (Reporter n) k now
+    swap_kept : (b : Bool) → (word_at w.words e.game == old) ≡ b → Keeps (after_reply (Reporter n) k now
         (cond b (Accepted (record { number = (record_at new).number })) (Refused (Stale (record_at (word_at w.words e.game)).number))) (cond b (stored n e new w) w))
     swap_kept b is = search (arith, won, missed)
 
@@ -294,7 +281,7 @@ module _ (steps : List Step) (w : MachineState) (kept : Keeps steps w) where
 
   -- a load of a first collect keeps what a run keeps
   first_kept : (c : Caller) (k : ℕ) (loaded : List ℕ) (holds : held_by w.callers c ≡ Some (Within k (Collecting loaded))) (b : Bool)
-      → (length (loaded ++ slice_index w.words (length loaded) ∷ []) == 12) ≡ b → Keeps (steps ++ First c ∷ []) (with_held
+      → (length (loaded ++ slice_index w.words (length loaded) ∷ []) == 12) ≡ b → Keeps (with_held
       (Within k (cond b (Checking (loaded ++ slice_index w.words (length loaded) ∷ []) 0 now) (Collecting (loaded ++ slice_index w.words (length loaded) ∷ [])))) c w)
   first_kept c k loaded holds b is =
       let m = kept.knows c (Within k (Collecting loaded)) k holds refl in
@@ -303,15 +290,15 @@ module _ (steps : List Step) (w : MachineState) (kept : Keeps steps w) where
       let all = loaded_more loaded m.sees.few m.sees.loaded in
       let early = begun_before k m.call m.at in
       let sees : Sees w.history m.call (Within k (cond b (Checking more 0 now) (Collecting more))) = search (arith, eqb-true, eqb-false, m.sees, long, all, early) in
-      stayed steps w kept c (Within k (Collecting loaded)) holds k refl (First c) (Within k (cond b (Checking more 0 now) (Collecting more))) tt sees refl
+      stayed w kept c (Within k (Collecting loaded)) holds k refl (Within k (cond b (Checking more 0 now) (Collecting more))) sees refl
 
   -- the load of a second collect
   module _ (c : Caller) (k : ℕ) (words : List ℕ) (checked point : ℕ) (holds : held_by w.callers c ≡ Some (Within k (Checking words checked point))) where
     -- a load of a second collect that finds another word lets the reading begin anew
-    start_again : Keeps (steps ++ Second c ∷ []) (with_held (Within k (Collecting [])) c w)
+    start_again : Keeps (with_held (Within k (Collecting [])) c w)
     start_again =
         let m = kept.knows c (Within k (Checking words checked point)) k holds refl in
-        stayed steps w kept c (Within k (Checking words checked point)) holds k refl (Second c) (Within k (Collecting [])) tt (search (arith, m.sees)) refl
+        stayed w kept c (Within k (Checking words checked point)) holds k refl (Within k (Collecting [])) (search (arith, m.sees)) refl
 
     -- a load of a second collect that finds its word again: one more was there at the point of the reading
     pub one_more : (slice_index w.words checked == slice_index words checked) ≡ true → AreAt w.history words (checked + 1) point
@@ -327,11 +314,11 @@ module _ (steps : List Step) (w : MachineState) (kept : Keeps steps w) where
 
     -- if it was not the twelfth, the reading goes on
     goes_on : (slice_index w.words checked == slice_index words checked) ≡ true → (checked == 11) ≡ false
-        → Keeps (steps ++ Second c ∷ []) (with_held (Within k (Checking words (checked + 1) point)) c w)
+        → Keeps (with_held (Within k (Checking words (checked + 1) point)) c w)
     goes_on same other =
         let m = kept.knows c (Within k (Checking words checked point)) k holds refl in
         let checks : Checks w.history m.call words (checked + 1) point = search (arith, eqb-false checked 11 other, m.sees, one_more same) in
-        stayed steps w kept c (Within k (Checking words checked point)) holds k refl (Second c) (Within k (Checking words (checked + 1) point)) tt checks refl
+        stayed w kept c (Within k (Checking words checked point)) holds k refl (Within k (Checking words (checked + 1) point)) checks refl
 
     -- if it was the twelfth, the words are the board at the point
     module _ (same : (slice_index w.words checked == slice_index words checked) ≡ true) (last : (checked == 11) ≡ true) where
@@ -348,7 +335,7 @@ module _ (steps : List Step) (w : MachineState) (kept : Keeps steps w) where
           let late = (kept.knows c (Within k (Checking words checked point)) k holds refl).sees.late in
           ap version_of copied_board ∙ ((versions (take point w.history) (legal_take w.history point kept.legal)).0 ∙ length-take-le point w.history late)
 
-      copied : Keeps (steps ++ Second c ∷ []) (after_reply c k point (Copied (reading_of words)) w)
+      copied : Keeps (after_reply c k point (Copied (reading_of words)) w)
       copied =
           let m = kept.knows c (Within k (Checking words checked point)) k holds refl in
           let o = m.sees in
@@ -356,29 +343,28 @@ module _ (steps : List Step) (w : MachineState) (kept : Keeps steps w) where
           let r = Copied (reading_of words) in
           let f = with_reply point r in
           let told : Explains h (f m.call) (Some point) (Some r) = search (arith, o.early, o.late, m.unended, sequential_reading, copied_board, copied_version) in
-          moved steps w kept c (Within k (Checking words checked point)) holds k refl (Second c) (Answered k) h w.words f tt (begins_same h) kept.legal kept.words (λ a. refl)
-          (once_refused w.calls k f m.call m.at o.reads.reply h refl kept.once) (told, refl) refl
+          moved w kept c (Within k (Checking words checked point)) holds k refl (Answered k) h w.words f (begins_same h) kept.legal kept.words (λ a. refl) (told, refl) refl
 
     -- a load of a second collect keeps what a run keeps
     second_kept : (a b : Bool) → (slice_index w.words checked == slice_index words checked) ≡ a → (checked == 11) ≡ b
-        → Keeps (steps ++ Second c ∷ []) (after_outcome c k point (cond a (cond b (Answers (Copied (reading_of words))) (GoesOn (Checking words (checked + 1) point))) (GoesOn (Collecting []))) w)
+        → Keeps (after_outcome c k point (cond a (cond b (Answers (Copied (reading_of words))) (GoesOn (Checking words (checked + 1) point))) (GoesOn (Collecting []))) w)
     second_kept a b same last = search (arith, copied, goes_on, start_again)
 
   -- the beginning of a call keeps what a run keeps, and so does each step
-  begin_kept : (c : Caller) (call : Call) → held_by w.callers c ≡ Some Idle → may_begin c call ≡ true → Keeps (steps ++ Begin c call ∷ []) (after_begin c call w)
+  begin_kept : (c : Caller) (call : Call) → held_by w.callers c ≡ Some Idle → may_begin c call ≡ true → Keeps (after_begin c call w)
   begin_kept (Reporter (suc n)) (Event e) holds may =
-      begun steps w kept (Reporter (suc n)) Idle holds refl (Event e) (Wanting (length w.calls) e) (search (arith, and_parts, leb-true)) refl
+      begun w kept (Reporter (suc n)) Idle holds refl (Event e) (Wanting (length w.calls) e) (search (arith, and_parts, leb-true)) refl
   begin_kept c (Event e) holds may = search (arith, none-some, false≢true)
-  begin_kept c Reading holds may = begun steps w kept c Idle holds refl Reading (Within (length w.calls) (Collecting [])) (search arith) refl
+  begin_kept c Reading holds may = begun w kept c Idle holds refl Reading (Within (length w.calls) (Collecting [])) (search arith) refl
 
-  pub step_kept : (s : Step) (o : Option CallerState) (w' : MachineState) → held_by w.callers (caller_of s) ≡ o → after_step_holding s o w ≡ Some w' → Keeps (steps ++ s ∷ []) w'
+  pub step_kept : (s : Step) (o : Option CallerState) (w' : MachineState) → held_by w.callers (caller_of s) ≡ o → after_step_holding s o w ≡ Some w' → Keeps w'
   step_kept (Begin c call) (Some Idle) w' holds done = search (arith, cond_some (may_begin c call) (after_begin c call w) w' done, begin_kept c call holds)
   step_kept (Look (Reporter n)) (Some (Wanting k e)) w' holds done = search (arith, same_Some, look_kept n k e holds)
   step_kept (Swap (Reporter n)) (Some (Within k (Holding e old new))) w' holds done = search (arith, same_Some, swap_kept n k e old new holds)
   step_kept (First c) (Some (Within k (Collecting loaded))) w' holds done =
-      subst (Keeps (steps ++ First c ∷ [])) (same_Some (state_after_first c k loaded w) w' done) (first_kept c k loaded holds (length (loaded ++ slice_index w.words (length loaded) ∷ []) == 12) refl)
+      subst Keeps (same_Some (state_after_first c k loaded w) w' done) (first_kept c k loaded holds (length (loaded ++ slice_index w.words (length loaded) ∷ []) == 12) refl)
   step_kept (Second c) (Some (Within k (Checking words checked point))) w' holds done = search (arith, same_Some, second_kept c k words checked point holds)
-  step_kept (End c) (Some (Answered k)) w' holds done = search (arith, ended steps w kept c (Answered k) holds k refl (kept.knows c (Answered k) k holds refl).sees, same_Some)
+  step_kept (End c) (Some (Answered k)) w' holds done = search (arith, ended w kept c (Answered k) holds k refl (kept.knows c (Answered k) k holds refl).sees, same_Some)
   step_kept s o w' holds done = absurd (none-some w' done)
 
 -- each of some idle callers is idle
@@ -390,154 +376,21 @@ idle_all n k x e = search (arith, none-some, same_Some)
 idle_at_start : (cast : Cast) (c : Caller) (x : CallerState) → held_by (initial_state cast).callers c ≡ Some x → x ≡ Idle
 idle_at_start cast c x e = search (arith, none-some, idle_all)
 
--- the initial state, after no steps, satisfies `Keeps`, the invariant of runs of the machine
-pub kept_at_start : (cast : Cast) → Keeps [] (initial_state cast)
-kept_at_start cast = search (arith, may_none MayFollow, board_none, none-some, turns_none, in_call, idle_at_start)
+-- the initial state satisfies `Keeps`, the invariant of runs of the machine
+pub kept_at_start : (cast : Cast) → Keeps (initial_state cast)
+kept_at_start cast = search (arith, may_none MayFollow, board_none, none-some, in_call, idle_at_start)
 
--- a state that satisfies `Keeps`, the invariant of runs of the machine, after the steps `done` does so after more enabled steps
-pub run_kept : (steps done : List Step) (w w' : MachineState) → Keeps done w → after_steps steps w ≡ Some w' → Keeps (done ++ steps) w'
-run_kept [] done w w' kept e = subst (λ (z : List Step). Keeps z w') (sym (append-nil done)) (subst (Keeps done) (same_Some w w' e) kept)
-run_kept (s ∷ steps) done w w' kept e = option_and_then_some (after_steps steps) (after_step w s) w' e (λ v is then.
-    subst (λ (z : List Step). Keeps z w') (append_assoc done (s ∷ []) steps)
-    (run_kept steps (done ++ s ∷ []) v w' (step_kept done w kept s (held_by w.callers (caller_of s)) v refl is) then))
-
--- the times of some calls (Time) have the same callers, and ask the same, as the calls
-told_caller_and_call : (xs : List CallRecord) → map told (map time_of xs) ≡ map caller_and_call xs
-told_caller_and_call [] = refl
-told_caller_and_call (a ∷ xs) = ap (λ (z : List (Caller × Call)). caller_and_call a ∷ z) (told_caller_and_call xs)
-
--- an accepted reply is a reply
-accepted_some : (o : Option Reply) → is_accepted o ≡ true → IsSome o
-accepted_some o made = search (arith, false≢true)
-
--- what it says of the calls, as linearizability asks for
-module _ (steps : List Step) (w : MachineState) (kept : Keeps steps w) where
-  timed : (i : ℕ) (a : CallRecord) → slice_get w.calls i ≡ Some a → slice_get (map time_of w.calls) i ≡ Some (time_of a)
-  timed i a at = slice_get-map time_of w.calls i ∙ ap (option_map time_of) at
-
-  calls_ended : EndedBySteps steps w.calls
-  calls_ended i = if_some (slice_get w.calls i) (λ c. IsSome c.ended ↔ ((p : ℕ) × EndsAt steps p i c.caller)) (λ a at.
-      (λ some. kept.turns.closed i (time_of a) (timed i a at) some, λ e. kept.turns.finished e.0 i a.caller (time_of a) e.1 (timed i a at)))
-
-  -- c is call i, which has its reply
-  abbrev Is : ℕ → FinishedCall → Type 0
-  Is i c = IsReplied steps w.history w.calls i c
-
-  -- a call that has its reply, as it is recorded
-  answered : (i : ℕ) (r : CallRecord) → slice_get w.calls i ≡ Some r → (k : ℕ) (reply : Reply) → IsDecided r k reply → (c : FinishedCall) × Is i c × (c.reply ≡ reply) × (c.point ≡ k)
-  answered i r at k reply is = by r.ended refl
-    where
-      start : (p : ℕ) × BeginsAt steps p i r.caller
-      start = place_of steps i r.caller r.call (ap (λ (z : List (Caller × Call)). slice_get z i) kept.turns.same
-          ∙ (slice_get-map told (map time_of w.calls) i ∙ ap (option_map told) (timed i r at)))
-
-      finished : ℕ → ℕ → FinishedCall
-      finished last ended = record { number = caller_number r.caller; call = r.call; reply = reply; point = k; first = start.0; last = last; begun = r.begun; ended = ended }
-
-      by : (o : Option ℕ) → r.ended ≡ o → (c : FinishedCall) × Is i c × (c.reply ≡ reply) × (c.point ≡ k)
-      by None none =
-          let c = finished (length steps) (length w.history) in
-          let ends = subst (λ (o : Option ℕ). EndsAs steps w.history i r.caller o c) (sym none) (refl, refl) in
-          (c, record { recorded = r; at = at; asked = (refl, refl); decided = is; begins = (refl, start.1); ends = ends }, refl, refl)
-      by (Some n) some =
-          let t = kept.turns.closed i (time_of r) (timed i r at) (subst (λ (o : Option ℕ). IsSome o) (sym some) refl) in
-          let c = finished t.0 n in
-          let ends = subst (λ (o : Option ℕ). EndsAs steps w.history i r.caller o c) (sym some) (refl, t.1) in
-          (c, record { recorded = r; at = at; asked = (refl, refl); decided = is; begins = (refl, start.1); ends = ends }, refl, refl)
-
-  -- a call ends when it is recorded as ended, or when the last entry came
-  end_of : (i : ℕ) (c : FinishedCall) (r : CallRecord) → slice_get w.calls i ≡ Some r → BeginsAt steps c.first i r.caller
-      → (o : Option ℕ) → r.ended ≡ o → EndsAs steps w.history i r.caller o c
-      → ((r.ended ≡ Some c.ended) ⊎ (c.ended ≡ length w.history)) × (c.ended ≤ length w.history) × (c.first ≤ c.last)
-  end_of i c r at b None is e = let below = at_below steps c.first (Begin r.caller b.call) b.begins in search (arith, le_refl, e.0, e.1)
-  end_of i c r at b (Some n) is e =
-      let late : n ≤ length w.history = subst (λ (o : Option ℕ). IfSome o (λ e. e ≤ length w.history)) is (kept.turns.past i (time_of r) (timed i r at)).1 in
-      search (arith, one_place steps c.first e.1.begun i r.caller r.caller b e.1.begins, e.0, e.1.before)
-
-  explained_call : (i : ℕ) (c : FinishedCall) → Is i c → IsExplained w.history c
-  explained_call i c a =
-      let r = a.recorded in
-      let s = decided w.history r (kept.explained i r a.at) c.point c.reply a.decided in
-      let e = end_of i c r a.at a.begins.1 r.ended refl a.ends in
-      let l = lies r c.point (length w.history) c.ended c.reply s.0 e.0 in
-      explained_by w.history c (grind (arith, l, e), search (arith, by_number w.history c.point r.caller c.call c.reply, s.1, a.asked)) e.2 (grind (arith, l, e, a.begins.0)) l.2
-
-  -- a call that ended before another began ended with no more entries than there were then
-  real : (i j : ℕ) (a b : FinishedCall) → Is i a → Is j b → a.last < b.first → a.ended ≤ b.begun
-  real i j a b x y turn = by x.recorded.ended refl x.ends
-    where
-      by : (o : Option ℕ) → x.recorded.ended ≡ o → EndsAs steps w.history i x.recorded.caller o a → a.ended ≤ b.begun
-      by None is e = grind (arith, at_below steps b.first (Begin y.recorded.caller y.begins.1.call) y.begins.1.begins, e.1)
-      by (Some n) is e =
-          let late : n ≤ y.recorded.begun = subst (λ (o : Option ℕ). EndedBy o y.recorded.begun) is
-          (kept.turns.real a.last b.first i j x.recorded.caller y.recorded.caller (time_of x.recorded) (time_of y.recorded) e.1 y.begins.1 turn
-          (timed i x.recorded x.at) (timed j y.recorded y.at)) in
-          grind (arith, e.0, y.begins.0)
-
-  -- of two calls of one caller the earlier ends before the later begins
-  in_turn : (i j : ℕ) (a b : FinishedCall) (x : Is i a) (y : Is j b) → x.recorded.caller ≡ y.recorded.caller → i < j → a.last < b.first
-  in_turn i j a b x y same less = by x.recorded.ended refl x.ends
-    where
-      over : EndedBy x.recorded.ended y.recorded.begun
-      over = kept.turns.turns i j (time_of x.recorded) (time_of y.recorded) less (timed i x.recorded x.at) (timed j y.recorded y.at) same
-
-      there : slice_get steps b.first ≡ Some (Begin x.recorded.caller y.begins.1.call)
-      there = y.begins.1.begins ∙ ap (λ (c : Caller). Some (Begin c y.begins.1.call)) (sym same)
-
-      apart : a.last ≡ b.first → slice_get steps a.last ≢ Some (End x.recorded.caller)
-      apart here e = absurd (cc (sym e ∙ (ap (slice_get steps) here ∙ there)))
-
-      by : (o : Option ℕ) → x.recorded.ended ≡ o → EndsAs steps w.history i x.recorded.caller o a → a.last < b.first
-      by None is e = absurd (subst (λ (o : Option ℕ). EndedBy o y.recorded.begun) is over)
-      by (Some n) is e =
-          let early = earlier_place steps e.1.begun b.first i j x.recorded.caller y.recorded.caller e.1.begins y.begins.1 less in
-          elim (cases_order a.last b.first) [
-            | inl here ↦ absurd (apart here e.1.ends)
-            | inr not ↦ elim not [ inl after ↦ after | inr before ↦ absurd (e.1.last b.first y.begins.1.call early before there) ]
-          ]
-
-  -- each entry of the history was made by exactly one call
-  once : (place : ℕ) → place < length w.history → (i : ℕ) × MadeBy Is place i × ((j : ℕ) → MadeBy Is place j → j ≡ i)
-  once place low =
-      let t = kept.once place low in
-      let m = and_some (slice_get w.calls t.0) (IsMaker place) t.1 in
-      let d = has_reply w.history m.0 (kept.explained t.0 m.0 m.1) (accepted_some m.0.reply m.2.0) in
-      let a = answered t.0 m.0 m.1 d.0 d.1 d.2 in
-      let accepted : accepts d.1 ≡ true = ap is_accepted (sym d.2.1) ∙ m.2.0 in (
-        t.0,
-        (a.0, a.1, ap accepts a.2 ∙ accepted, a.3 ∙ same_Some d.0 place (sym d.2.0 ∙ m.2.1)),
-        λ j made. t.2 j
-            (some_and (slice_get w.calls j) (IsMaker place) made.1.recorded made.1.at (ap is_accepted made.1.decided.1 ∙ made.2, made.1.decided.0 ∙ ap Some made.3)),
-      )
-
-  -- the calls of a run are linearizable
-  pub linearizable : IsLinearizableRun steps w.history w.calls
-  linearizable = record {
-    calls_begun = sym (kept.turns.same ∙ told_caller_and_call w.calls);
-    calls_ended = calls_ended;
-    recorded = λ i r at.
-        let p = whole w.history r (kept.explained i r at) in
-        record {
-          replied = p.0;
-          pointed = p.1;
-          answered = λ some. let d = has_reply w.history r (kept.explained i r at) some in let a = answered i r at d.0 d.1 d.2 in (a.0, a.1);
-        };
-    linearizable = linear w.history Is kept.legal explained_call once real;
-    in_turn = in_turn;
-  }
-
--- one history of the board of one thread explains every run
-pub linearizable_run : RunsAreLinearizable
-linearizable_run cast steps w e = linearizable steps w (run_kept steps [] (initial_state cast) w (kept_at_start cast) e)
+-- a state that satisfies `Keeps`, the invariant of runs of the machine, does so after more enabled steps
+pub run_kept : (steps : List Step) (w w' : MachineState) → Keeps w → after_steps steps w ≡ Some w' → Keeps w'
+run_kept [] w w' kept e = subst Keeps (same_Some w w' e) kept
+run_kept (s ∷ steps) w w' kept e = option_and_then_some (after_steps steps) (after_step w s) w' e
+    (λ v is then. run_kept steps v w' (step_kept w kept s (held_by w.callers (caller_of s)) v refl is) then)
 
 -- after every list of enabled steps the match words are those of the board of the history
 pub words_of_run : WordsAreOfTheHistory
-words_of_run cast steps w e = (run_kept steps [] (initial_state cast) w (kept_at_start cast) e).words
+words_of_run cast steps w e = (run_kept steps (initial_state cast) w (kept_at_start cast) e).words
 
 -- so of every trace
 module _ (cast : Cast) (steps : List Step) (w : MachineState) (trace : Trace) (last : after_steps steps (initial_state cast) ≡ Some w) (left : IsLeftBy w trace) where
-  pub linearizable_trace : IsLinearizableRun steps trace.history.items trace.calls.items
-  linearizable_trace = search (arith, linearizable_run cast steps w last)
-
   pub words_of_trace : trace.words ≡ board_of trace.history.items
   words_of_trace = left.words ∙ (words_of_run cast steps w last ∙ ap board_of (sym left.history))

@@ -1,6 +1,6 @@
 -- The protocol as seen from one pass. `now` is the length of the history just before a step.
 -- A step's target is what it looked at: a match word, the number of enlisted reporters, or the whole board.
-use Rattle.std.specs.Prelude.{◌≡◌, ℕ, ◌+◌, ◌==◌, if◌then◌else◌, List, [], ◌∷◌, ◌++◌, length, Option, Some, None}
+use Rattle.std.specs.Prelude.{◌≡◌, ℕ, ◌+◌, ◌==◌, if◌then◌else◌, List, [], ◌∷◌, ◌++◌, length, Option, Some, None, slice_get}
 use Rattle.std.specs.List.{fold}
 use Rattle.ucl_word.specs.Record.{IsReporter}
 use Rattle.ucl_word.specs.Counts.{EachMay}
@@ -9,22 +9,29 @@ use Rattle.ucl_board.specs.History.{entry_of}
 use Rattle.ucl_steps.specs.declared.step.Call.{Call}
 use Rattle.ucl_steps.specs.declared.step.Call.TheVariants.{Event, Reading}
 use Rattle.ucl_steps.specs.declared.trace.Reply.{Reply}
-use Rattle.ucl_steps.specs.Linearizable.{FinishedCall}
 use Rattle.ucl_steps.specs.Protocol.{Pending, NoCall, Holding, Collecting, Checking, Outcome, GoesOn, Answers, looked, swapped, loaded, compared}
-use Rattle.ucl_board.specs.Log.{AccessKind, Look, Swap, First, Second, Target, Match, Enlists, Whole, Taken, Logged, Log, entry_list, taken_by}
+use Rattle.ucl_board.specs.Log.{AccessKind, Look, Swap, First, Second, Target, Match, Enlists, Whole, Taken, Logged, Log, taken_by}
+
+-- a call that has its reply: the number of its pass (0 for a reader), what it asked, the reply, and the places in the log of its first step and
+-- of its last
+pub record FinishedCall : Type 0 where
+  pub number : ℕ
+  pub call : Call
+  pub reply : Reply
+  pub first : ℕ
+  pub last : ℕ
 
 -- what a pass has done: its number (0 for a reader), its finished calls, oldest first, and what it holds of the call under way (NoCall if
--- there is none); the place in the log of the first step of its latest call, and how many entries there were then
+-- there is none); and the place in the log of the first step of its latest call
 pub record ClientState : Type 0 where
   pub number : ℕ
   pub calls : List FinishedCall
   pub held : Pending
   pub first : ℕ
-  pub begun : ℕ
 
 -- the state of a pass that has taken no step: a reader's, without a call
 abbrev pub new_client : ClientState
-new_client = record { number = 0; calls = []; held = NoCall; first = 0; begun = 0 }
+new_client = record { number = 0; calls = []; held = NoCall; first = 0 }
 
 -- the call of a step on this target, by what its pass held before: the entering of an event for a Look or a Swap, else a reading
 abbrev pub call_asked : Pending → Target → Call
@@ -42,17 +49,11 @@ outcome number (Collecting words) (Match First game found) now = loaded words fo
 outcome number (Checking words checked point) (Match Second game found) now = compared words checked point found
 outcome number held target now = GoesOn held
 
--- when the call of a step began: `now`, the time of the step itself, if its pass held no call before it; else `first`, the time kept of the
--- call's first step. Both times are places in the log, or both are lengths of the history
+-- the place of the first step of a step's call: `place`, that of the step itself, if its pass held no call before it; else `first`, which was
+-- kept
 abbrev pub first_place : Pending → ℕ → ℕ → ℕ
-first_place NoCall first now = now
-first_place held first now = first
-
--- the linearization point of a call that gets its reply by a step before which the history had `now` entries, by what its pass held then: a
--- report takes effect at this step, a reading at the last load of its first collect
-abbrev pub point_of : Pending → ℕ → ℕ
-point_of (Checking words checked point) now = point
-point_of held now = now
+first_place NoCall first place = place
+first_place held first place = first
 
 -- the finished call that a pass in this state has after a step that brings this reply
 abbrev pub call_answered : Reply → Taken → ClientState → FinishedCall
@@ -60,20 +61,13 @@ call_answered reply step client = record {
   number = client.number;
   call = call_asked client.held step.target;
   reply = reply;
-  point = point_of client.held step.at;
   first = first_place client.held client.first step.place;
   last = step.place;
-  begun = first_place client.held client.begun step.at;
-  ended = step.at + length (entry_list step.entry);
 }
 
 -- the state of a pass after a step with this outcome, by its state `old` before: its call goes on, or is added to the finished calls
 abbrev pub with_outcome : Outcome → Taken → ClientState → ClientState
-with_outcome (GoesOn held) step old = record old {
-  held = held;
-  first = first_place old.held old.first step.place;
-  begun = first_place old.held old.begun step.at;
-}
+with_outcome (GoesOn held) step old = record old { held = held; first = first_place old.held old.first step.place }
 with_outcome (Answers reply) step old = record old { calls = old.calls ++ call_answered reply step old ∷ []; held = NoCall }
 
 -- the state of a pass after a step on this target: an enlistment that found n reporters gives it number n + 1; any other step has the
@@ -94,6 +88,10 @@ client_of steps = fold with_step new_client steps
 abbrev pub client_at : ℕ → Log → ClientState
 client_at seat log = client_of (taken_by seat log)
 
+-- among the calls that the pass of this seat has finished by the end of the log, this one is number k, counted from 0
+abbrev pub IsCall : Log → ℕ → ℕ → FinishedCall → Type 0
+IsCall log seat k call = slice_get (client_at seat log).calls k ≡ Some call
+
 -- for a step of this kind, the match that is next for a pass that holds this; 0 if no such step is next, and for a Look
 abbrev pub next_game : AccessKind → Pending → ℕ
 next_game Swap (Holding event old new) = event.game
@@ -111,7 +109,7 @@ IsNextFor client (Enlists found) = (client.held ≡ NoCall) × (client.number �
 IsNextFor client (Whole shown) = ⊥
 IsNextFor client target = Unit {0}
 
--- the entry that a step on this target adds, by its pass's number and what that held: only a Swap that finds the loaded word adds one
+-- the entry that a step on this target adds, by its pass's number and what that held: only a compare-and-exchange that finds the loaded word adds one
 abbrev pub entry_by : ℕ → Pending → Target → Option Entry
 entry_by number (Holding event old new) (Match Swap game found) = if found == old then Some (entry_of number event) else None
 entry_by number held target = None

@@ -1,11 +1,14 @@
 pub mod Trails
 pub mod Machine
-pub mod Linearizable
-pub mod RunHistory
 pub mod Traces
 pub mod Theorems
 pub mod Running
 pub mod Protocol
 pub mod ClientState
-pub mod LogHistory
 pub mod LogRuns
+pub mod Linearizability
+pub mod BoardObject
+pub mod CallEvents
+pub mod RunHistory
+pub mod Seen
+pub mod Strong

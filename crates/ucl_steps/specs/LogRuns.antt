@@ -10,7 +10,6 @@ use Rattle.ucl_steps.specs.declared.step.Step.{Step}
 use Rattle.ucl_steps.specs.declared.step.Step.TheVariants as machine
 use Rattle.ucl_steps.specs.Protocol.{Pending, NoCall, Outcome, GoesOn, Answers}
 use Rattle.ucl_steps.specs.Machine.{CallerState, MachineState, Idle, Within, initial_state, held_by, after_steps}
-use Rattle.ucl_steps.specs.RunHistory.{IsLinearizableRun}
 use Rattle.ucl_board.specs.Log.{AccessKind, Look, Swap, First, Second, Target, Match, Logged, Log, history_of, IsLog}
 use Rattle.ucl_steps.specs.ClientState.{client_at, call_asked, outcome, FollowsProtocol}
 
@@ -71,7 +70,7 @@ HoldsAs NoCall holds = holds ≡ Some Idle
 HoldsAs held holds = (call : ℕ) × (holds ≡ Some (Within call held))
 
 -- the machine's steps for a log are enabled, and lead to the history of the log and the words of its board; the caller of each pass then
--- holds what the pass holds; and all calls, those under way among them, are linearizable
+-- holds what the pass holds
 pub record LeadsToLog (readers : ℕ) (log : Log) : Type 0 where
   pub state : MachineState
   pub run : after_steps (machine_steps log) (initial_state (cast_for readers)) ≡ Some state
@@ -79,7 +78,6 @@ pub record LeadsToLog (readers : ℕ) (log : Log) : Type 0 where
   pub words_are : state.words ≡ board_of (history_of log)
   pub each : (seat : ℕ) → seat < readers
       → HoldsAs (client_at seat log).held (held_by state.callers (caller_for seat (client_at seat log).number))
-  pub linearizable : IsLinearizableRun (machine_steps log) (history_of log) state.calls
 
 -- each log that follows the protocol, with seats below `readers`, is a run of the machine with so many readers
 abbrev pub LogsAreRuns : Type 0

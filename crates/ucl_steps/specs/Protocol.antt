@@ -1,5 +1,6 @@
 -- The snapshot protocol: what a caller holds between two steps on match words, and what comes of each step.
--- A report loads a word (Look), then exchanges it (Swap). A reading loads all (First), then again (Second), and begins anew if they differ.
+-- A report loads a word (Look), then replaces it by a compare-and-exchange (Swap). A reading loads all words (First), then all again (Second),
+-- and begins anew if they differ.
 use Rattle.std.specs.Prelude.{ℕ, ◌+◌, ◌==◌, if◌then◌else◌, List, [], ◌∷◌, ◌++◌, length, Option, Some, None, Result, Ok, Err, slice_index}
 use Rattle.ucl_word.specs.declared.event.EventCall.{EventCall}
 use Rattle.ucl_word.specs.declared.event.Accepted as event
@@ -44,7 +45,7 @@ by_rules number event found None = GoesOn (Holding event found (word_of (after (
 abbrev pub looked : ℕ → EventCall → ℕ → Outcome
 looked number event found = by_rules number event found (refusal_of (record_at found) event.expected event.kind)
 
--- what comes of a Swap, the compare and exchange of a report: if it finds the old word, which the Look loaded, the event is accepted with
+-- what comes of a Swap, the compare-and-exchange of a report: if it finds the old word, which the Look loaded, the event is accepted with
 -- the number of the new word; else the event is stale, with the number of the word found
 abbrev pub swapped : ℕ → ℕ → ℕ → Outcome
 swapped old new found = Answers (if found == old

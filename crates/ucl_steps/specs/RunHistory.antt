@@ -1,76 +1,88 @@
--- Linearizability of a list of steps by which callers begin, make and end calls: which calls have their replies, and between which steps.
--- Call i is the one that the i-th Begin in the list begins, counted from 0.
-use Rattle.std.specs.Prelude.{◌≡◌, ◌≢◌, ◌↔◌, ℕ, ◌<◌, List, [], ◌∷◌, length, take, map, Option, Some, None, IsSome, IfSome, slice_get}
+-- The history of calls of a list of steps of the machine: a Begin invokes a call, and its End is the response, with the reply that the call has
+-- got. A call whose End is not among the steps is pending. And what it is that the calls that a run records are linearizable.
+use Rattle.std.specs.Prelude.{◌≡◌, ◌↔◌, ℕ, ◌+◌, ◌*◌, ◌<◌, ◌≤◌, true, List, [], ◌∷◌, ◌++◌, length, take, Option, Some, None, IsSome, IfSome, slice_get}
+use Rattle.std.specs.Option.{option_and_then}
+use Rattle.ucl_board.specs.History.{IsLegal}
 use Rattle.ucl_board.specs.declared.entry.Entry.{Entry}
+use Rattle.ucl_steps.specs.declared.step.Call.{Call}
 use Rattle.ucl_steps.specs.declared.step.Caller.{Caller}
 use Rattle.ucl_steps.specs.declared.step.Caller.TheVariants.{Reporter, Reader}
-use Rattle.ucl_steps.specs.declared.step.Call.{Call}
+use Rattle.ucl_steps.specs.declared.step.Cast.{Cast}
 use Rattle.ucl_steps.specs.declared.step.Step.{Step}
 use Rattle.ucl_steps.specs.declared.step.Step.TheVariants.{Begin, End}
 use Rattle.ucl_steps.specs.declared.trace.CallRecord.{CallRecord}
-use Rattle.ucl_steps.specs.Linearizable.{FinishedCall, IsLinearizable}
-
--- the calls that a list of steps begins, in their order, each with its caller
-abbrev pub begun_in : List Step → List (Caller × Call)
-begun_in [] = []
-begun_in (Begin caller call ∷ steps) = (caller, call) ∷ begun_in steps
-begun_in (step ∷ steps) = begun_in steps
-
--- the caller of a recorded call, and what the call asked
-abbrev pub caller_and_call : CallRecord → Caller × Call
-caller_and_call c = (c.caller, c.call)
-
--- the step at place p of the list is a Begin by the caller c, and begins call i
-pub record BeginsAt (steps : List Step) (p i : ℕ) (c : Caller) : Type 0 where
-  pub call : Call
-  pub begins : slice_get steps p ≡ Some (Begin c call)
-  pub number : length (begun_in (take p steps)) ≡ i
-
--- the step at place p of the list is an End by the caller c, and ends call i: the last call that c began before it, at place `begun`
-pub record EndsAt (steps : List Step) (p i : ℕ) (c : Caller) : Type 0 where
-  pub ends : slice_get steps p ≡ Some (End c)
-  pub begun : ℕ
-  pub before : begun < p
-  pub begins : BeginsAt steps begun i c
-  pub last : (q : ℕ) (call : Call) → begun < q → q < p → slice_get steps q ≢ Some (Begin c call)
-
--- a call is recorded as ended exactly if some step of the list ends it
-abbrev pub EndedBySteps : List Step → List CallRecord → Type 0
-EndedBySteps steps calls = (i : ℕ) → IfSome (slice_get calls i) (λ c. IsSome c.ended ↔ ((p : ℕ) × EndsAt steps p i c.caller))
+use Rattle.ucl_steps.specs.declared.trace.Reply.{Reply}
+use Rattle.ucl_steps.specs.BoardObject.{BoardEvent, IsLinearizableTo, board_object}
+use Rattle.ucl_steps.specs.Linearizability.{Invocation, Response, Operation, IsOperation, state_after}
+use Rattle.ucl_steps.specs.Machine.{CallerState, Answered, MachineState, initial_state, held_by, caller_of, after_steps}
+use Rattle.ucl_steps.specs.Seen.{accepts}
 
 -- the number of a reporter, 0 for a reader
 abbrev pub caller_number : Caller → ℕ
 caller_number (Reporter number) = number
 caller_number (Reader number) = 0
 
--- c ends as call i of this caller does: at the call's End in the list of steps, where the history was as long as recorded (`ended`), or,
--- if the call has no End, after all steps
-abbrev pub EndsAs : List Step → List Entry → ℕ → Caller → Option ℕ → FinishedCall → Type 0
-EndsAs steps history i caller (Some ended) c = (c.ended ≡ ended) × EndsAt steps c.last i caller
-EndsAs steps history i caller None c = (c.ended ≡ length history) × (c.last ≡ length steps)
+-- a caller as a process: reporters have the even numbers, readers the odd ones
+abbrev pub process_for : Caller → ℕ
+process_for (Reporter number) = 2 * number
+process_for (Reader number) = 2 * number + 1
 
--- c is call i as a finished call: call i has a reply, and c has what is recorded of it, and the places of the steps that begin and end it
-pub record IsReplied (steps : List Step) (history : List Entry) (calls : List CallRecord) (i : ℕ) (c : FinishedCall) : Type 0 where
-  pub recorded : CallRecord
-  pub at : slice_get calls i ≡ Some recorded
-  pub asked : (c.number ≡ caller_number recorded.caller) × (c.call ≡ recorded.call)
-  pub decided : (recorded.point ≡ Some c.point) × (recorded.reply ≡ Some c.reply)
-  pub begins : (c.begun ≡ recorded.begun) × BeginsAt steps c.first i recorded.caller
-  pub ends : EndsAs steps history i recorded.caller recorded.ended c
+-- the response of a process with this reply, as a list: none if there is no reply
+abbrev pub response_with : ℕ → Option Reply → List BoardEvent
+response_with process None = []
+response_with process (Some reply) = Response process reply ∷ []
 
--- call i, as recorded, has a reply if it has ended, and has a point exactly if it has a reply. If it has one, there is a finished call with
--- what is recorded of it, and with the places of the steps that begin and end it
-pub record IsRecorded (steps : List Step) (history : List Entry) (calls : List CallRecord) (i : ℕ) (recorded : CallRecord) : Type 0 where
-  pub replied : IsSome recorded.ended → IsSome recorded.reply
-  pub pointed : IsSome recorded.point ↔ IsSome recorded.reply
-  pub answered : IsSome recorded.reply → (c : FinishedCall) × IsReplied steps history calls i c
+-- the event that a step brings in this state, as a list, if its caller holds this: a Begin or an End brings one, other steps none
+abbrev pub event_at : MachineState → Step → Option CallerState → List BoardEvent
+event_at state (Begin caller call) holds = Invocation (process_for caller) (caller_number caller, call) ∷ []
+event_at state (End caller) (Some (Answered call)) =
+    response_with (process_for caller) (option_and_then (λ (asked : CallRecord). asked.reply) (slice_get state.calls call))
+event_at state step holds = []
 
--- these calls are those that the steps begin and end, and are linearizable: the history of the board of one thread holds each call that has
--- a reply once, with that reply, between its beginning and its end; and the calls of one caller come one after another
-pub record IsLinearizableRun (steps : List Step) (history : List Entry) (calls : List CallRecord) : Type 0 where
-  pub calls_begun : map caller_and_call calls ≡ begun_in steps
-  pub calls_ended : EndedBySteps steps calls
-  pub recorded : (i : ℕ) (call : CallRecord) → slice_get calls i ≡ Some call → IsRecorded steps history calls i call
-  pub linearizable : IsLinearizable history (IsReplied steps history calls)
-  pub in_turn : (i j : ℕ) (a b : FinishedCall) (first : IsReplied steps history calls i a) (second : IsReplied steps history calls j b)
-      → first.recorded.caller ≡ second.recorded.caller → i < j → a.last < b.first
+-- the event that a step brings in this state, if there is one
+abbrev pub event_in : Option MachineState → Step → List BoardEvent
+event_in None step = []
+event_in (Some state) step = event_at state step (held_by state.callers (caller_of step))
+
+-- the events of the second part of a list of steps, if `before` is the first part
+abbrev pub run_events_after : Cast → List Step → List Step → List BoardEvent
+run_events_after cast before [] = []
+run_events_after cast before (step ∷ steps) =
+    event_in (after_steps before (initial_state cast)) step ++ run_events_after cast (before ++ step ∷ []) steps
+
+-- the history of calls of a list of steps by the callers of this cast
+abbrev pub run_events : Cast → List Step → List BoardEvent
+run_events cast steps = run_events_after cast [] steps
+
+-- a recorded call as an operation, invoked at this place, with this reply
+abbrev pub operation_by : CallRecord → ℕ → Reply → Operation (ℕ × Call) Reply
+operation_by c place reply = record { process = process_for c.caller; call = (caller_number c.caller, c.call); invoked = place; reply = reply }
+
+-- a recorded call takes effect at its point: it is this operation of a sequence, and those before it leave the first `point` entries of the
+-- history. The point lies between the lengths of the history at the call's Begin and at its End; the entry of an accepted call is there by then
+pub record TakesEffect (sequence : List (Operation (ℕ × Call) Reply)) (history : List Entry) (c : CallRecord) (o : Operation (ℕ × Call) Reply) : Type 0 where
+  pub point : ℕ
+  pub recorded : c.point ≡ Some point
+  pub within : (c.begun ≤ point) × (point ≤ length history)
+  pub by_end : IfSome c.ended (λ ended. (point ≤ ended) × (accepts o.reply ≡ true → point < ended))
+  pub place : ℕ
+  pub is : slice_get sequence place ≡ Some o
+  pub before : state_after board_object [] (take place sequence) ≡ take point history
+
+-- the calls that a run records are those that its history of calls invokes, in their order. That history is linearizable, and leaves the
+-- history of the run, which is legal. A call has its reply if it has ended, and its point just if it has its reply: it takes effect there. And
+-- it has ended just if it has its response
+pub record IsLinearizableRun (cast : Cast) (steps : List Step) (history : List Entry) (calls : List CallRecord) : Type 0 where
+  pub linearizable : IsLinearizableTo history (run_events cast steps)
+  pub legal : IsLegal history
+  pub invoked : ℕ → ℕ
+  pub begun : (i : ℕ) (c : CallRecord) → slice_get calls i ≡ Some c
+      → slice_get (run_events cast steps) (invoked i) ≡ Some (Invocation (process_for c.caller) (caller_number c.caller, c.call))
+  pub only : (place process : ℕ) (asked : ℕ × Call) → slice_get (run_events cast steps) place ≡ Some (Invocation process asked)
+      → (i : ℕ) × (i < length calls) × (invoked i ≡ place)
+  pub in_order : (i j : ℕ) → i < j → j < length calls → invoked i < invoked j
+  pub replied : (i : ℕ) (c : CallRecord) → slice_get calls i ≡ Some c → (IsSome c.ended → IsSome c.reply) × (IsSome c.point ↔ IsSome c.reply)
+  pub effect : (i : ℕ) (c : CallRecord) (reply : Reply) → slice_get calls i ≡ Some c → c.reply ≡ Some reply
+      → TakesEffect linearizable.linearizable.0 history c (operation_by c (invoked i) reply)
+  pub ended : (i : ℕ) (c : CallRecord) (reply : Reply) → slice_get calls i ≡ Some c → c.reply ≡ Some reply
+      → IsSome c.ended ↔ IsOperation (run_events cast steps) (operation_by c (invoked i) reply)

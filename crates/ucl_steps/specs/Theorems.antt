@@ -1,4 +1,4 @@
--- Theorems of every run of the machine, and of the accesses of a call: its loads and exchanges of match words.
+-- Theorems of every run of the machine, and of the accesses of a call: its loads and compare-and-exchanges of match words.
 -- `low` and `high` are lengths of the history before a call and after it, and `at` is that at an access.
 use Rattle.std.specs.Prelude.{◌≡◌, ℕ, ◌+◌, ◌*◌, ◌<◌, ◌≤◌, List, length, take, Some, Result, slice_get}
 use Rattle.std.specs.List.{AllByRecursion}
@@ -11,13 +11,20 @@ use Rattle.ucl_board.specs.History.{board_of, IsLegal, sequential_reply, snapsho
 use Rattle.ucl_steps.specs.declared.step.Cast.{Cast}
 use Rattle.ucl_steps.specs.declared.step.Step.{Step}
 use Rattle.ucl_steps.specs.Machine.{MachineState, initial_state, after_steps}
-use Rattle.ucl_steps.specs.RunHistory.{IsLinearizableRun}
+use Rattle.ucl_steps.specs.RunHistory.{IsLinearizableRun, run_events}
+use Rattle.ucl_steps.specs.Seen.{ReadsWhole}
 use Rattle.ucl_board.specs.Log.{Access}
 use Rattle.ucl_steps.specs.Trails.{Follows, ReportAccesses, decided_at, max_tries, max_loads, IsUnclean, accesses_of, ReadingAccesses}
 
--- every list of enabled steps of any reporters and readers, cut off anywhere, is linearizable: its history explains its calls
+-- the calls of every list of enabled steps of any reporters and readers, cut off anywhere, are linearizable, in the order of their points.
+-- A call that is pending at the end is given a response, if it has its reply by then, or counts for nothing
 abbrev pub RunsAreLinearizable : Type 0
-RunsAreLinearizable = (cast : Cast) (steps : List Step) (state : MachineState) → after_steps steps (initial_state cast) ≡ Some state → IsLinearizableRun steps state.history state.calls
+RunsAreLinearizable = (cast : Cast) (steps : List Step) (state : MachineState) → after_steps steps (initial_state cast) ≡ Some state
+    → IsLinearizableRun cast steps state.history state.calls
+
+-- so no reading of a run is stale or torn
+abbrev pub RunsReadWhole : Type 0
+RunsReadWhole = (cast : Cast) (steps : List Step) (state : MachineState) → after_steps steps (initial_state cast) ≡ Some state → ReadsWhole (run_events cast steps)
 
 -- after every list of enabled steps the match words are those of the board of the history
 abbrev pub WordsAreOfTheHistory : Type 0

@@ -1,4 +1,4 @@
--- The trail of a pass: its loads and exchanges of match words, the accesses, oldest first; and which of them each call leaves in it.
+-- The trail of a pass: its loads and compare-and-exchanges of match words, the accesses, oldest first; and which of them each call leaves in it.
 -- An access has the word that it found, its place among all steps on the board, and `at`, the length of the history just before it.
 use Rattle.std.specs.Prelude.{◌≡◌, ◌≢◌, ℕ, ◌+◌, ◌-◌, ◌*◌, ◌<◌, ◌≤◌, ◌⊎◌, List, [], ◌∷◌, ◌++◌, take, length, Some, Result, Ok, Err, IsOk, slice_get, slice_index}
 use Rattle.std.specs.List.{AllByRecursion}

@@ -22,8 +22,9 @@ mod trace;
 pub use run::run_steps;
 pub use step::{Call, Caller, Cast, Step};
 pub use theorems::{
-    logs_are_linearizable, logs_are_runs, logs_have_facts, readings_are_snapshots,
-    reports_are_sequential, runs_are_linearizable, unclean_tries_are_few, unclean_tries_see_more,
+    calls_are_linearizable, later_calls_have_seen, logs_are_runs, logs_have_facts,
+    only_reports_are_fixed, readings_are_snapshots, reports_are_sequential, runs_are_linearizable,
+    stale_and_torn_readings_are_refused, unclean_tries_are_few, unclean_tries_see_more,
     words_are_of_the_history,
 };
 pub use trace::{CallRecord, Reply, StepFault, Trace};

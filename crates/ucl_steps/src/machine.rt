@@ -188,7 +188,7 @@ impl Machine {
         true
     }
 
-    /// Takes the step `Swap`: exchanges the word that a reporter loaded for the next one, if the word is still there, and refuses the event
+    /// Takes the step `Swap`: replaces the word that a reporter loaded by the next one, if the word is still there, and refuses the event
     /// as stale if it is not. Returns false if the step is not enabled, and an error if out of memory.
     fn swap(&mut self, caller: Caller) -> Result<bool, AllocError>
         requires { IsReachable (state_of self.old) }

@@ -23,7 +23,7 @@ pub fn run_steps(alloc: Global, cast: &Cast, steps: &[Step]) -> Result<Trace, St
     ensures not_enabled { (at : ℕ) → result ≡ Err (NotEnabled at)
         → IsFirstDisabled cast.now steps.now at }
     ensures linearizable { IfOk result
-        (λ trace. IsLinearizableRun steps.now trace.history.items trace.calls.items) }
+        (λ trace. IsLinearizableRun cast.now steps.now trace.history.items trace.calls.items) }
     ensures words { IfOk result (λ trace. trace.words ≡ board_of trace.history.items) }
 {
     let mut machine = Machine::new(alloc, cast)?;

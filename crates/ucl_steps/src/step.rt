@@ -36,8 +36,8 @@ pub enum Step {
     Begin(Caller, Call),
     /// A reporter that wants to enter an event loads the word of its match. If the rules refuse the event, that is the reply.
     Look(Caller),
-    /// A reporter that has looked exchanges the word that it loaded for the next one, if the word is still there. If it is not, the reply
-    /// is that the event is stale.
+    /// A reporter that has looked replaces the word that it loaded by the next one, if the word is still there: a compare-and-exchange. If it
+    /// is not, the reply is that the event is stale.
     Swap(Caller),
     /// A reading loads the next word of its first collect, from match 1 to match 12.
     First(Caller),

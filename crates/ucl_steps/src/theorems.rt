@@ -3,15 +3,19 @@
 
 ghost use Rattle.ucl_board.specs.Log.{Log, IsLog, IsLegalRule, LogFacts};
 ghost use Rattle.ucl_steps.specs.ClientState.{FollowsProtocol, IsNextOfProtocol};
-ghost use Rattle.ucl_steps.specs.Theorems.{RunsAreLinearizable, WordsAreOfTheHistory, UncleanTriesSeeMore, UncleanTriesAreFew, ReadingsAreSnapshots, ReportsAreSequential};
-ghost use Rattle.ucl_steps.specs.LogHistory.{LogsAreLinearizable};
+ghost use Rattle.ucl_steps.specs.Theorems.{RunsAreLinearizable, RunsReadWhole, WordsAreOfTheHistory, UncleanTriesSeeMore, UncleanTriesAreFew, ReadingsAreSnapshots, ReportsAreSequential};
+ghost use Rattle.ucl_steps.specs.BoardObject.{CallsAreLinearizable};
+ghost use Rattle.ucl_steps.specs.Seen.{LinearizableCallsReadWhole, LinearizableReadsWhole, StaleAndTornAreRefused};
 ghost use Rattle.ucl_steps.specs.LogRuns.{LogsAreRuns, LongerLogsAreLongerRuns};
+ghost use Rattle.ucl_steps.specs.Strong.{LogsAreNotStrong, LogsAreWriteStrong};
 
-/// States that every list of enabled steps of the machine, in any order and cut anywhere, is linearizable (Herlihy and Wing): one legal
-/// history of the board of one thread holds each finished call once, with the reply that it got, between its invocation and its response.
-/// Each reading is the board after a prefix of that history, and the versions that one caller reads never fall.
+/// States that every list of enabled steps of the machine, in any order and cut anywhere, has a linearizable history of calls (Herlihy and
+/// Wing), of which the invocations are the steps that begin calls, and the responses those that end them. The calls that the machine records
+/// are these, and each takes effect at the point that is recorded. So a reading has the event of each report that was accepted, and had
+/// ended, before the reading began, and no lower version than a reading that had ended by then.
 pub fn runs_are_linearizable()
-    ensures { RunsAreLinearizable }
+    ensures linearizable { RunsAreLinearizable }
+    ensures whole { RunsReadWhole }
 {}
 
 /// States that after every list of enabled steps the match words are those of the board of the history.
@@ -46,11 +50,28 @@ pub fn reports_are_sequential()
     ensures { ReportsAreSequential }
 {}
 
-/// States that every log that follows the protocol, in whatever order passes took its steps, is linearizable (Herlihy and Wing): its
-/// history is legal, and each finished call has a linearization point, not before its first step nor after its last, at which its reply is
-/// that of the board of one thread. Each entry is of exactly one report. If a call ended before another began, its point is no later.
-pub fn logs_are_linearizable()
-    ensures { LogsAreLinearizable }
+/// States that the calls of every log that follows the protocol are linearizable as Herlihy and Wing define it: some sequence of the
+/// operations in its history of invocations and responses, run on the board of one thread, gives the replies that they got, and no operation
+/// that got its response before another was invoked comes after it.
+pub fn calls_are_linearizable()
+    ensures { CallsAreLinearizable }
+{}
+
+/// States that in each log with linearizable calls, so on each board, a call has seen each call that ended before it began, whichever passes
+/// the two are of: a reading shows each report that was accepted, by the event number of its match, and has no lower version than an earlier
+/// reading. And no reading is torn: one that shows an event shows each that was accepted, and over, before that one was reported.
+#[tactic(auto, using(crate::proofs::Freshness::calls_whole))]
+pub fn later_calls_have_seen()
+    ensures { LinearizableCallsReadWhole }
+{}
+
+/// States what it refuses that a history of calls is linearizable, whatever board had it. A call that was invoked after a report was
+/// accepted, and had its response, shows its event: no reading is stale. And none is torn: a reading that shows an event shows each that was
+/// accepted, and over, before that was reported. Of each there is one history, which is not linearizable.
+#[tactic(auto, using(crate::proofs::Freshness::linearizable_whole, crate::proofs::Freshness::refused))]
+pub fn stale_and_torn_readings_are_refused()
+    ensures whole { LinearizableReadsWhole }
+    ensures examples { StaleAndTornAreRefused }
 {}
 
 /// States that a log that follows the protocol gave its reporters the numbers from 1 to how many are enlisted, at most 255, each to one
@@ -69,4 +90,12 @@ pub fn logs_have_facts()
 pub fn logs_are_runs()
     ensures runs { LogsAreRuns }
     ensures longer { LongerLogsAreLongerRuns }
+{}
+
+/// States how far the order of calls is fixed at once. Write strong-linearizability (Hadzilacos, Hu and Toueg): each log has a
+/// linearization, in which a longer log leaves all reports as they are, and adds its own after them. But readings move: no function
+/// gives each log a linearization that a longer log only extends, which is strong linearizability (Golab, Higham and Woelfel).
+pub fn only_reports_are_fixed()
+    ensures reports { LogsAreWriteStrong }
+    ensures readings { LogsAreNotStrong }
 {}

@@ -174,7 +174,7 @@ fn enlisted_with<B: LiveBoard, R: Wait>(
 
 /// The answer of settling by two reporters, with 2 and 3 accepted events, on a board on which a third, whose pass was dropped, has entered
 /// `others` events: the version, or that there are strangers.
-fn settled_on<B: LiveBoard, R: Wait>(
+pub(crate) fn settled_on<B: LiveBoard, R: Wait>(
     rt: &R,
     board: &B,
     mut reader: B::ReaderPass,

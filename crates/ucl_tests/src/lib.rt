@@ -8,6 +8,8 @@ mod input;
 #[cfg(test)]
 mod order;
 #[cfg(test)]
+mod own_board;
+#[cfg(test)]
 mod screen;
 #[cfg(test)]
 mod steps;

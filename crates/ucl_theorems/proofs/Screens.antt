@@ -1,17 +1,26 @@
 -- One history of each run of the machine and of each running board, and the screens of its snapshots.
-use Rattle.std.proofs.Common.{ap, arith, ◌∙◌, drop, sym, take}
+use Rattle.std.proofs.Common.{[], ap, arith, ◌∙◌, drop, inl, inr, length, refl, sym, take, ℕ, ◌<◌, ◌≤◌}
+use Rattle.std.proofs.lemmas.Bool.{cases_lt}
 use Rattle.std.proofs.lemmas.List.{length-take-le}
+use Rattle.std.proofs.lemmas.List.Elements.{All-weaker}
 use Rattle.ucl_board.proofs.HistoryTheorems.{legal_take, versions}
-use Rattle.ucl_theorems.specs.Headline.{ScreensShowTheHistory, BoardsHaveOneHistory, HistoriesGoOn, LogGoesOn}
+use Rattle.ucl_theorems.specs.Headline.{ScreensShowTheHistory, BeganSince, BoardsHaveOneHistory, HistoriesGoOn, LogGoesOn, WasOverBefore}
 use Rattle.ucl_screen.specs.Screen.{screen_text}
 use mathlib.Core.List.{IsPrefix}
 use Rattle.atomic_table.specs.Table.{State}
 use Rattle.ucl_board.specs.declared.entry.Entry.{Entry}
+use Rattle.ucl_board.proofs.Logs.{taken_none}
+use Rattle.ucl_board.specs.Log.{Logged}
+use Rattle.ucl_steps.specs.ClientState.{FinishedCall, IsCall}
+use Rattle.ucl_steps.specs.Seen.{CallsReadWhole}
+use Rattle.ucl_steps.proofs.BoardObject.{calls_linearizable}
+use Rattle.ucl_steps.proofs.Freshness.{calls_whole}
 use Rattle.ucl_steps.proofs.Clients.{numbers_apart}
 use Rattle.ucl_steps.proofs.LogFacts.{logs_facts}
 use Rattle.ucl_steps.proofs.LaterLogs.{begins_after, calls_stay}
-use Rattle.ucl_steps.proofs.LogHistory.{logs_linearizable}
+use Rattle.ucl_steps.proofs.LogHistory.{logs_have_points}
 use Rattle.ucl_live_board.specs.declared.view.View.{View}
+use Rattle.ucl_live_board.proofs.Alone.{view_at}
 use Rattle.ucl_words.specs.TableInvariants.{TableInvariant}
 use Rattle.ucl_words.specs.LaterState.{LaterState}
 use Rattle.ucl_words.proofs.Boards.{later_go_on}
@@ -25,13 +34,11 @@ screens_show history point legal within profile roster group = rw ((versions (ta
 pub boards_have : BoardsHaveOneHistory TableInvariant
 boards_have s r = record {
   log = r.log;
-  is_log = r.is_log;
-  protocol = r.follows;
   words = sym (ap (drop 1) r.words_are);
   each = λ seat v at. let f = r.fits seat v at in record { knows = f.knows; own = f.own.1 };
   only = r.seated;
   apart = numbers_apart r.log (logs_facts r.log r.is_log r.follows);
-  linearizable = logs_linearizable r.log r.is_log r.follows;
+  linearizable = calls_linearizable r.log r.is_log r.follows;
 }
 
 -- if state t is later than state s, the log of s is a prefix of that of t, its finished calls are the same there, and the order of calls is
@@ -40,15 +47,38 @@ logs_go_on : (s t : State Entry View) (r : TableInvariant s) (q : TableInvariant
 logs_go_on s t r q later = record {
   begins = more;
   calls = λ seat k c at. calls_stay r.log q.log seat k c more at;
-  real_time = λ seat other k l a b at bt since.
-      let f = r.fits other since.0 since.1 in
-      let ended = ((logs_linearizable r.log r.is_log r.follows).timely seat k a at).ended in
-      let began = begins_after since.0.log r.log q.log other l b q.is_log q.follows more f.knows (sym f.own.0 ∙ f.own.1) bt since.2 in
-      (logs_linearizable q.log q.is_log q.follows).linearizable.order (seat, k) (other, l) a b (calls_stay r.log q.log seat k a more at) bt (omega (arith, ended, began));
+  real_time = turn;
+  fresh = λ a b over. reads.fresh over.of_a.0 over.of_b.0 over.of_a.1 over.of_b.1 a b (stays a b over) over.finishes (turn a b over);
+  whole = λ a b c seat k over made at. reads.whole over.of_a.0 over.of_b.0 seat over.of_a.1 over.of_b.1 k a b c (stays a b over) over.finishes at (turn a b over) made;
 }
   where
     more : IsPrefix r.log q.log
     more = later_go_on s t r q later
+
+    reads : CallsReadWhole q.log
+    reads = calls_whole q.log (calls_linearizable q.log q.is_log q.follows)
+
+    stays : (a b : FinishedCall) (over : WasOverBefore s r.log q.log a b) → IsCall q.log over.of_a.0 over.of_a.1 a
+    stays a b over = calls_stay r.log q.log over.of_a.0 over.of_a.1 a more over.finished
+
+    -- a call that began in the state or later comes after its log
+    after : (seat k : ℕ) (b : FinishedCall) → IsCall q.log seat k b → BeganSince s seat b → length r.log ≤ b.first
+    after seat k b at since = elim (cases_lt seat (length s.views)) [
+      | inl there ↦
+          let v = view_at s.views seat there in
+          let f = r.fits seat v.0 v.1 in
+          begins_after v.0.log r.log q.log seat k b q.is_log q.follows more f.knows (sym f.own.0 ∙ f.own.1) at (since v.0 v.1)
+      | inr not ↦
+          let none = taken_none seat r.log (All-weaker (λ (x : Logged). x.seat < length s.views) (λ (x : Logged). x.seat < seat) (λ x low. omega arith) r.log r.seated) in
+          begins_after [] r.log q.log seat k b q.is_log q.follows more (r.log, refl) (sym none) at (omega arith)
+    ]
+
+    -- the last step of a call that was over before another began comes before the first step of that other
+    turn : (a b : FinishedCall) (over : WasOverBefore s r.log q.log a b) → a.last < b.first
+    turn a b over =
+        let ended = ((logs_have_points r.log r.is_log r.follows).timely over.of_a.0 over.of_a.1 a over.finished).0 in
+        let began = after over.of_b.0 over.of_b.1 b over.finishes over.began in
+        omega arith
 
 -- if state t is later than state s, the log that `boards_have` gives of s is a prefix of that of t, its finished calls are the same there,
 -- and the order of calls is that of real time

@@ -62,7 +62,7 @@ static KINDS: [Kind; 13] = [
 ];
 
 impl Kind {
-    /// Returns the name of this kind of event in an event file, such as `goal-home`.
+    /// Returns the name of this kind of event in an event file, such as `goal-home`. No other kind has it, nor its code.
     pub fn name(self) -> &'static str
         ensures { result.now ≡ kind_name self }
     {

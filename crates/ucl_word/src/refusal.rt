@@ -31,7 +31,7 @@ pub enum Refusal {
 }
 
 impl Refusal {
-    /// Returns the number that stands for this refusal of an event, 1 to 9.
+    /// Returns the number that stands for this refusal of an event, 1 to 9. No other refusal has it.
     pub fn code(self) -> u8
         ensures { result ≡ refusal_code self }
     {
@@ -48,7 +48,7 @@ impl Refusal {
         }
     }
 
-    /// Returns the name of this refusal of an event, such as `no-goal`, at most 15 bytes.
+    /// Returns the name of this refusal of an event, such as `no-goal`, at most 15 bytes. No other refusal has it.
     pub fn name(self) -> &'static str
         ensures value { result.now ≡ refusal_name self }
         ensures short { length result.now ≤ 15 }

@@ -1,7 +1,7 @@
 //! A match as one word: where its fields stand, counted from bit 0, and how a record is packed and unpacked. What an event changes in a
 //! word is in `rules`.
 
-ghost use Rattle.std.specs.Prelude.{◌≡◌, ◌*◌, ◌+◌, ◌^◌, ◌<◌, ◌≤◌, ◌/◌, ◌↔◌, IsTrue, IfOk, IfErr};
+ghost use Rattle.std.specs.Prelude.{◌≡◌, ◌*◌, ◌+◌, ◌^◌, ◌<◌, ◌≤◌, ◌/◌, ◌↔◌, IsTrue, IfOk, IfErr, Ok};
 ghost use Rattle.ucl_word.specs.Record.{max_number, IsValid};
 ghost use Rattle.ucl_word.specs.Layout.{layout, word_of, record_at, state_code, bits_at, HasLayoutTag, IsWord, HoldsRecord};
 
@@ -175,6 +175,7 @@ fn is_packed(word: u64, fields: &MatchRecord) -> bool
 pub fn unpack(word: u64) -> Result<MatchRecord, BadWord>
     ensures valid { IfOk result IsValid }
     ensures packed { IfOk result (λ m. word_of m ≡ word) }
+    ensures read_back { (m : MatchRecord) → IsValid m → word_of m ≡ word → result ≡ Ok m }
     ensures refused { IfErr result (λ _. IsWord word → ⊥) }
 {
     let game = fields_of(word);

@@ -46,7 +46,7 @@ pub use Rattle.ucl_steps.proofs.Clients.{checking, client_number, collecting, co
 pub use Rattle.ucl_steps.proofs.LogFacts.{calls_low, legal_steps, logs_facts, logs_legal, logs_sound}
 pub use Rattle.ucl_steps.specs.ClientState.{ClientState, IsNextFor, IsNextOfProtocol, call_answered, call_asked, client_at, client_of}
 pub use Rattle.ucl_steps.specs.ClientState.{entry_by, first_place, new_client, next_game, outcome, with_outcome, with_step, with_target}
-pub use Rattle.ucl_steps.specs.Linearizable.{FinishedCall}
+pub use Rattle.ucl_steps.specs.ClientState.{FinishedCall}
 pub use Rattle.ucl_steps.specs.Protocol.{Checking, Collecting, GoesOn, Holding, MayAsk, NoCall, Outcome, Pending, by_rules, collected}
 pub use Rattle.ucl_steps.specs.Protocol.{report_reply}
 pub use Rattle.ucl_steps.specs.Theorems.{IsReadFrom}

@@ -9,7 +9,7 @@ use Rattle.ucl_board.specs.declared.entry.Entry.{Entry}
 use Rattle.ucl_board.specs.Words.{word_at}
 use Rattle.ucl_board.specs.History.{board_of, IsLegal}
 use Rattle.ucl_board.specs.Log.{enlisted_by, number_of}
-use Rattle.ucl_steps.specs.LogHistory.{IsLinearizableLog}
+use Rattle.ucl_steps.specs.BoardObject.{HasLinearizableCalls}
 use Rattle.ucl_steps.specs.LogRuns.{LeadsToLog}
 use Rattle.ucl_live_board.specs.Numbers.{IsGivenAfter}
 use Rattle.ucl_live_board.specs.declared.view.View.{View}
@@ -20,7 +20,7 @@ use Rattle.ucl_words.specs.LaterState.{LaterState}
 abbrev pub IsNextWord : Entry → ℕ → ℕ → Type 0
 IsNextWord entry old new = GainsOne IsLegal (λ history. word_at (board_of history) entry.game) entry old new
 
--- Two entries of one match that turn the same word into the same word are one entry: so an exchange of words tells which event it entered.
+-- Two entries of one match that turn the same word into the same word are one entry: so a compare-and-exchange tells which event it entered.
 abbrev pub WordsTellTheEntry : Type 0
 WordsTellTheEntry =
     (history : List Entry) (entry other : Entry) (old new : ℕ) → IsLegal history → entry.game ≡ other.game
@@ -29,7 +29,7 @@ WordsTellTheEntry =
 -- In a state that satisfies the invariant (by `rule`, which has the log of all steps), all reports and readings of all passes are
 -- linearizable, and the log is a run of the protocol's pure machine (`ucl_steps`), of which each step on a match word is one step.
 pub record BoardIsLinearizable (state : State Entry View) (rule : TableInvariant state) : Type 0 where
-  pub linearizable : IsLinearizableLog rule.log
+  pub linearizable : HasLinearizableCalls rule.log
   pub run : LeadsToLog (length state.views) rule.log
 
 -- Every state that satisfies the invariant is linearizable, so every board is, between any two steps of any threads.

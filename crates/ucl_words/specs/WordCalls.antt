@@ -10,7 +10,7 @@ use Rattle.ucl_steps.specs.declared.step.Call.{Call}
 use Rattle.ucl_steps.specs.declared.step.Call.TheVariants as calls
 use Rattle.ucl_steps.specs.declared.trace.Reply.{Reply}
 use Rattle.ucl_steps.specs.Protocol.{MayAsk, NoCall}
-use Rattle.ucl_steps.specs.Linearizable.{FinishedCall}
+use Rattle.ucl_steps.specs.ClientState.{FinishedCall}
 use Rattle.ucl_steps.specs.ClientState.{client_of}
 use Rattle.ucl_steps.specs.Trails.{Follows, ReportAccesses, max_tries, ReadingAccesses}
 use Rattle.ucl_live_board.specs.declared.view.View.{View}
@@ -40,7 +40,8 @@ pub record LeavesAccesses (old : View) (accesses : List Access) (entry : Option 
   pub follows : Follows (history_of new.log) (length (history_of old.log)) accesses (length (history_of new.log))
   pub whole_trail : HasTrail new
 
--- The steps of a report of `call`: a load, on whose word the rules refuse the event, or a load and an exchange, won (accepted) or lost.
+-- The steps of a report of `call`: a load, on whose word the rules refuse the event, or a load and a compare-and-exchange, won (accepted) or
+-- lost.
 pub record ReportSteps (old : View) (call : EventCall) (reply : Result Accepted Refusal) (new : View) : Type 0 where
   pub may : MayAsk (number_of old.own) (calls.Event call)
   pub accesses : List Access

@@ -16,7 +16,7 @@ ghost use Rattle.ucl_word.specs.Record.{IsReporter};
 ghost use Rattle.ucl_steps.specs.Protocol.{NoCall, Collecting, Checking};
 ghost use Rattle.ucl_board.specs.Log as logs;
 ghost use Rattle.ucl_board.specs.Log.{history_of, number_of};
-ghost use Rattle.ucl_steps.specs.ClientState.{IsNextOfProtocol, client_of, next_game};
+ghost use Rattle.ucl_steps.specs.ClientState.{client_of, next_game};
 ghost use Rattle.ucl_steps.specs.declared.step.Call.TheVariants as calls;
 ghost use Rattle.ucl_steps.specs.declared.trace.Reply.TheVariants as replies;
 
@@ -29,7 +29,7 @@ use atomic_table::TableRule;
 use std::alloc::Global;
 use std::marker::{Brand, Model};
 use ucl_board::{Board, Entry, Reading};
-use ucl_live_board::{MAX_REPORTERS, TooManyReporters, View};
+use ucl_live_board::{BoardRule, MAX_REPORTERS, TooManyReporters, View};
 use ucl_word::{Accepted, EventCall, OutOfMemory, Refusal, ReporterNo, next_word, number_of};
 
 /// The index of the word that counts the enlisted reporters; words 1 to 12 are the matches.
@@ -81,7 +81,7 @@ impl WordBoard {
     pub fn open<R>(_rt: &R, alloc: Global) -> Result<(WordBoard, WordReaderPass), OutOfMemory>
         ensures own { IfOk result (λ opened. IsWordPassOf opened.0 opened.1) }
         ensures opened { IfOk result (λ opened. WordOpened opened.1) }
-        ensures rule { BoardsOpenFresh words_after IsNextOfProtocol }
+        ensures rule { BoardsOpenFresh ⟦<WordRule as BoardRule>⟧.words_after ⟦<WordRule as BoardRule>⟧.may }
         ensures tied { ImpliesInvariant (⟦<WordRule as TableRule<Entry, View, ()>>⟧.holds tt) }
     {
         let (table, seat) = Table::of_words(alloc, &fresh_words(), &())?;
@@ -238,7 +238,8 @@ impl WordBoard {
     /// # Errors
     ///
     /// The refusal that a board of one thread gives after all events that the pass has then seen: nothing is entered. If another event of
-    /// the match came between the load and the exchange, it is `Stale` with the event number that was found.
+    /// the match came between the load and the exchange, it is `Stale` with the event number that was found. A report takes effect at its
+    /// last step: the exchange, or the load on whose word the rules refuse the event.
     ///
     /// ```rust
     /// let (board, pass) = WordBoard::open(&rt, rt.alloc())?;
@@ -275,7 +276,8 @@ impl WordBoard {
     }
 
     /// Reads the board and its version, as they were at one moment of this call: loads all match words, and loads them again, and begins
-    /// anew if one has changed, in no more tries than a history can have lengths, of at most 24 loads each.
+    /// anew if one has changed. It takes at most one try more than events are accepted after its first load, each of at most 24 loads, so
+    /// at most 1,179,384 loads. That moment is the twelfth load of its last try, which ends the first collect.
     ///
     /// ```rust
     /// let (board, mut reader) = WordBoard::open(&rt, rt.alloc())?;

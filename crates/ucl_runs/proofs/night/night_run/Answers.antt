@@ -2,7 +2,9 @@ use Rattle.ucl_runs.proofs.Common.{HasShown, IsPrefix, List, PassView, [], ap, b
 use Rattle.ucl_runs.proofs.Common.{kept_pass, number_of_two, option_map, refl, rules, split_pass, string_bytes, styled, subst, sym}
 use Rattle.ucl_runs.proofs.Common.{true≢false, ℕ, ◌++◌, ◌∙◌, ◌∷◌}
 use Rattle.std.specs.Prelude.{take}
-use Rattle.ucl_runs.proofs.EnteredRows.{each_on_duty, entered_all, merged_by_settlers, reported_on}
+use Rattle.ucl_runs.specs.Nights.{AreReady}
+use Rattle.ucl_runs.specs.declared.threads.Workers.{Workers}
+use Rattle.ucl_runs.proofs.EnteredRows.{each_on_duty, entered_all, have_entered, merged_by_settlers, reported_on}
 use Rattle.ucl_runs.proofs.Merges.{night_board_read}
 use Rattle.ucl_runs.proofs.night.night_run.Goals as goal
 
@@ -77,6 +79,7 @@ returns-in_err-settled g c =
     let first = known back.reporter_1 in
     let second = known back.reporter_2 in
     let last = known c.settle.new.second in
+    let rows = c.args.night.now.events.items in
     let settling = c.in_err-settled.ensures.says in
     let settled = settling.settled in
     let one = c.in_ok-enlist.ensures.says in
@@ -86,25 +89,68 @@ returns-in_err-settled g c =
       duty = search rules;
       night = tt;
       kinds = record {
-        first = back.reporter_1;
-        second = back.reporter_2;
+        entered = have_entered g.B.LiveBoard c.args.board.now rows (c.in_ok-enlist.ensures.own, (one.sound, one.mine)) (c.in_ok-enlist-2.ensures.own, (two.sound, two.mine))
+            worked.reporter_1 worked.reporter_2;
         last = c.settle.new.second;
-        entered_1 = record {
-          own = worked.reporter_1.0;
-          before = c.in_ok-enlist.field-0;
-          fresh = (c.in_ok-enlist.ensures.own, (one.sound, one.mine));
-          entered = worked.reporter_1.1;
-        };
-        entered_2 = record {
-          own = worked.reporter_2.0;
-          before = c.in_ok-enlist-2.field-0;
-          fresh = (c.in_ok-enlist-2.ensures.own, (two.sound, two.mine));
-          entered = worked.reporter_2.1;
-        };
         own = c.in_err-settled.ensures.own.1;
         high = settled.high;
         met_1 = begins_take first.seen last.seen _ settled.first settled.low_first;
         met_2 = begins_take second.seen last.seen _ settled.second settled.low_second;
         others = λ alone. true≢false (sym (settling.exactly.1 alone));
       };
+    })
+
+-- a worker had no thread
+pub returns-in_err-reporter_1 : goal.returns-in_err-reporter_1
+returns-in_err-reporter_1 g c =
+    let lent : Workers _ _ = record {
+      reporter_1 = c.in_ok-enlist.field-0;
+      reporter_2 = c.in_ok-enlist-2.field-0;
+      reader_1 = c.split-reader_1.result;
+      reader_2 = c.split-reader_2.result;
+    } in
+    let ready : AreReady g.B.LiveBoard c.args.board.now lent = search rules in
+    let told = err_from_is_err_and c.from_residual-in_err-reporter_1.result c.from_residual-in_err-reporter_1.ensures.1 in
+    rw (told.1, told.2, c.in_err-reporter_1.ensures) (record { duty = search rules; night = tt; kinds = (lent, ready) })
+
+-- memory was missing for a screen of reader 1
+pub returns-in_err-reader_1 : goal.returns-in_err-reader_1
+returns-in_err-reader_1 g c =
+    let worked = c.in_ok-reporter_1.ensures in
+    let one = c.in_ok-enlist.ensures.says in
+    let two = c.in_ok-enlist-2.ensures.says in
+    let told = err_from_is_err_and c.from_residual-in_err-reader_1.result c.from_residual-in_err-reader_1.ensures.1 in
+    rw (told.1, told.2) (record {
+      duty = search rules;
+      night = tt;
+      kinds = have_entered g.B.LiveBoard c.args.board.now c.args.night.now.events.items (c.in_ok-enlist.ensures.own, (one.sound, one.mine))
+          (c.in_ok-enlist-2.ensures.own, (two.sound, two.mine)) worked.reporter_1 worked.reporter_2;
+    })
+
+-- memory was missing for a screen of reader 2
+pub returns-in_err-reader_2 : goal.returns-in_err-reader_2
+returns-in_err-reader_2 g c =
+    let worked = c.in_ok-reporter_1.ensures in
+    let one = c.in_ok-enlist.ensures.says in
+    let two = c.in_ok-enlist-2.ensures.says in
+    let told = err_from_is_err_and c.from_residual-in_err-reader_2.result c.from_residual-in_err-reader_2.ensures.1 in
+    rw (told.1, told.2) (record {
+      duty = search rules;
+      night = tt;
+      kinds = have_entered g.B.LiveBoard c.args.board.now c.args.night.now.events.items (c.in_ok-enlist.ensures.own, (one.sound, one.mine))
+          (c.in_ok-enlist-2.ensures.own, (two.sound, two.mine)) worked.reporter_1 worked.reporter_2;
+    })
+
+-- memory was missing for the closing screen
+pub returns-in_err-closing : goal.returns-in_err-closing
+returns-in_err-closing g c =
+    let worked = c.in_ok-reporter_1.ensures in
+    let one = c.in_ok-enlist.ensures.says in
+    let two = c.in_ok-enlist-2.ensures.says in
+    let told = err_from_is_err_and c.from_residual-in_err-closing.result c.from_residual-in_err-closing.ensures.1 in
+    rw (told.1, told.2) (record {
+      duty = search rules;
+      night = tt;
+      kinds = have_entered g.B.LiveBoard c.args.board.now c.args.night.now.events.items (c.in_ok-enlist.ensures.own, (one.sound, one.mine))
+          (c.in_ok-enlist-2.ensures.own, (two.sound, two.mine)) worked.reporter_1 worked.reporter_2;
     })

@@ -31,10 +31,11 @@ returns-in-Ok-play g c =
     let end = c.in-Ok-play.end in
     let text = night_output end.last end.closing in
     let put = c.put_night.ensures in
-    let is = played c.args.profile c.args.group c.args.readings known night text read.reads.1 c.in-Ok-play.ensures in (
+    let opened = rw c.in-Ok-opening.is at c.opening.ensures in
+    let is = played g.B.LiveBoard opens _ _ opened c.args.profile c.args.group c.args.readings known night text read.reads.1 c.in-Ok-play.ensures in (
       c.put_night.result,
       wrote g.W.Sink (night_task g.B.LiveBoard opens c.args.profile c.args.group c.args.readings) _ _ read.calls text c.put_night.result read.reads.0 is
-          (λ bytes called. played_fits c.args.profile c.args.group c.args.readings bytes text called)
+          (λ bytes called. played_fits g.B.LiveBoard opens c.args.profile c.args.group c.args.readings bytes text called)
           (λ written. scripted known night (All IsOnDuty) read.reads.1 c.in-Ok-play.ensures.duty) put.all put.part put.sound,
       c.ended-in-Ok-play.ensures,
     )

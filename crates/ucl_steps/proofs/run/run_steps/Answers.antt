@@ -1,6 +1,7 @@
 use Rattle.ucl_steps.proofs.Common.{◌≡◌, List, Some, take, arith, sym, ap, ◌∙◌, add-one, take_all, slice_get-get_or, Step, initial_state, after_steps, state_of}
 use Rattle.ucl_steps.proofs.Reachable.{taken_step, steps_more}
-use Rattle.ucl_steps.proofs.Runs.{linearizable_trace, words_of_trace}
+use Rattle.ucl_steps.proofs.RunLinear.{linearizable_trace}
+use Rattle.ucl_steps.proofs.Runs.{words_of_trace}
 use Rattle.ucl_steps.proofs.run.run_steps.Goals as goal
 
 pub take-requires : goal.take-requires

@@ -1,5 +1,5 @@
-use Rattle.ucl_steps.proofs.Runs.{linearizable_run}
+use Rattle.ucl_steps.proofs.RunLinear.{run_linear, run_whole}
 use Rattle.ucl_steps.proofs.theorems.runs_are_linearizable.Goals as goal
 
 pub returns : goal.returns
-returns c = linearizable_run
+returns c = record { linearizable = run_linear; whole = run_whole }

@@ -1,6 +1,6 @@
-use Rattle.ucl_steps.proofs.Runs.{linearizable_run}
+use Rattle.ucl_steps.proofs.RunLinear.{run_linear}
 use Rattle.ucl_theorems.proofs.Screens.{screens_show}
 use Rattle.ucl_theorems.proofs.theorems.every_run_has_one_history.Goals as goal
 
 pub returns : goal.returns
-returns c = record { history = linearizable_run; screens = screens_show }
+returns c = record { history = run_linear; screens = screens_show }

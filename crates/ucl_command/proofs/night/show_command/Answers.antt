@@ -1,0 +1,15 @@
+use Rattle.std.proofs.Common.{codes, refl, rules}
+use Rattle.clap.specs.Simple.{new_app}
+use Rattle.ucl_command.proofs.Parses.{arg_added, defaulted}
+use Rattle.ucl_command.specs.Commands.{HasApp}
+use Rattle.std.proofs.lemmas.Result.{IfOk-weaker}
+use Rattle.ucl_command.proofs.night.show_command.Goals as goal
+
+pub returns : goal.returns
+returns c =
+    let letters = c.group_option.ensures in
+    let orders = c.order_option.ensures in
+    let start : HasApp (new_app (codes "show")) c.after_help.result = search rules in
+    let first = arg_added start (defaulted c.group_option.result c.default_value.result (codes "A") refl letters.1 c.default_value.ensures) c.in_ok-arg.ensures in
+    let order = defaulted c.order_option.result c.default_value-2.result (codes "uefa") c.name.ensures orders.1 c.default_value-2.ensures in
+    IfOk-weaker c.arg-2.result _ _ (λ command adds. (letters.0, orders.0, arg_added first order adds)) c.arg-2.ensures

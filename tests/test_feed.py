@@ -1,0 +1,243 @@
+"""The feed of a server, and the table once: for whoever draws it by a program of their own."""
+
+import itertools
+import json
+import os
+import pathlib
+import re
+import signal
+import socket
+import time
+from collections.abc import Callable, Iterator
+from typing import Any
+
+import model
+import pytest
+from conftest import TOP, Started, command, free_port, is_reached, lines_to_type, needs
+from feeds import Feed, got, health, until
+from test_serve import hall as hall
+
+pytestmark = pytest.mark.limit(200)
+Halls = Callable[..., Any]
+
+
+def test_the_screen_first_then_each_newer_and_pulses(hall: Halls) -> None:
+    """Who reads needs no Origin; the lines are those that pages get."""
+    one = hall("--reporter", "1:1,2", "--title", "Finals")
+    feed, page = Feed(one.port), one.screen()
+    assert feed.answer.getheader("Content-Type") == "application/x-ndjson"
+    phone = one.phone(1)
+    for number, event in enumerate(["kickoff", "goal-home", "goal-away"]):
+        assert phone.answer(1, number, event) == "entered"
+    begun = time.monotonic()
+    for version in (1, 2, 3):
+        assert feed.until("screen", version=version) == page.until("screen", version=version)
+    for _ in range(3):
+        assert feed.until("pulse", groups="A")["moments"] == {"A": [0, 3]}
+    assert 1.5 < time.monotonic() - begun < 6
+    assert [feed.lines[0]["reply"], feed.lines[0]["version"]] == ["screen", 0]
+    named = {"reply": "hall", "title": "Finals", "groups": "A", "tonight": {"A": [1, 2]}}
+    assert named in feed.lines and page.lines[0] == named
+    screens = [it for it in feed.lines if it["reply"] == "screen"]
+    assert screens == [it for it in page.lines if it["reply"] == "screen"]
+    feed.close()
+    assert until(lambda: health(one.port)["screens"] == 1)
+
+
+def test_a_group_or_all(hall: Halls) -> None:
+    """Who asks for a group gets no screen of another; one that is not there is told."""
+    one = hall("--reporter", "1", records=("a.csv", "b.csv"))
+    every, only = Feed(one.port), Feed(one.port, "/feed?group=B")
+    assert one.phone(1).answer(1, 0, "kickoff") == "entered"
+    assert one.phone(1, "b.csv").answer(2, 0, "kickoff") == "entered"
+    for group in "AB":
+        assert every.until("screen", group=group, version=1)
+    assert only.until("screen", version=1) and only.until("pulse", groups="AB")
+    assert {it["group"] for it in only.lines if it["reply"] == "screen"} == {"B"}
+    for path in "/feed?group=C", "/feed?group=", "/table.json?group=b":
+        assert got(one.port, path)[::2] == (404, "there is no such group here: A, B\n")
+    for path in "/table.json", "/table.txt":
+        assert got(one.port, path)[::2] == (400, "add ?group= with one of A, B\n")
+    assert json.loads(got(one.port, "/table.json?group=B")[2])["matches"][1]["number"] == 1
+
+
+def test_the_table_once_and_its_etag(hall: Halls) -> None:
+    """A cache that asks again is told in one line that nothing has changed, until it has."""
+    one = hall("--reporter", "1")
+    phone = one.phone(1)
+    matches, tags = model.fresh(), []
+    for number, event in enumerate(["kickoff", "goal-away"]):
+        assert phone.answer(1, number, event) == "entered"
+        matches[0].enter(1, event)
+        status, headers, body = got(one.port, "/table.txt")
+        assert (status, body) == (200, model.screen(matches))
+        assert headers["content-type"] == "text/plain; charset=utf-8" and "age" not in headers
+        assert headers["cache-control"] == "max-age=1, must-revalidate"
+        tags.append(headers["etag"])
+        status, headers, body = got(one.port, "/table.json")
+        assert status == 200 and headers["content-type"].startswith("application/json")
+        assert json.loads(body) == phone.lines[-1] or json.loads(body)["version"] == number + 1
+        for path, known in itertools.product(("/table.txt", "/table.json"), (tags[-1], "*")):
+            status, headers, body = got(one.port, path, If_None_Match=known)
+            assert (status, headers["etag"], body) == (304, tags[-1], "")
+        for known in ['"x"', '"0.9"', *tags[:-1]]:
+            assert got(one.port, "/table.txt", If_None_Match=known)[0] == 200
+    assert tags == ['W/"0.1"', 'W/"0.2"']
+    with open(one.folder / "a.csv", "a", encoding="ascii") as record:
+        record.write("mend,6,,\n")
+    assert until(lambda: got(one.port, "/table.txt")[1]["etag"] == 'W/"1.0"')
+    assert got(one.port, "/table.txt")[2].startswith("GROUP A v00000 IN PLAY 0 EDITION 1\n")
+
+
+def test_the_board_is_gone_and_the_table_says_so(hall: Halls) -> None:
+    """A record that is followed no more: pulses name it no more, and the table has its age."""
+    one = hall("--reporter", "1", records=("a.csv", "b.csv"))
+    feed = Feed(one.port)
+    (one.folder / "a.csv").write_text("")
+    assert feed.until("pulse", groups="B")["moments"] == {"B": [0, 0]}
+    assert int(got(one.port, "/table.txt?group=A")[1]["age"]) >= 1
+    assert "age" not in got(one.port, "/table.txt?group=B")[1]
+
+
+def test_as_many_readers_as_screens_may_be(hall: Halls) -> None:
+    """Who reads a feed has the place of a screen. One that goes makes room."""
+    one = hall("--reporter", "1", "--most-screens", "2")
+    feed, screen = Feed(one.port), one.screen()
+    assert feed.next()["reply"] == "screen" and screen.status == 101
+    assert Feed(one.port).answer.status == 503 and one.phone(1).answer(1, 0, "kickoff") == "entered"
+    feed.close()
+    assert until(lambda: Feed(one.port).answer.status == 200)
+
+
+@pytest.mark.parametrize("version", ["1.0", "1.1"])
+def test_a_slow_reader_gets_the_newest_and_holds_nobody_up(hall: Halls, version: str) -> None:
+    """Of lines that it did not take in time it gets the newest alone; also by HTTP/1.0."""
+    one = hall("--reporter", "1")
+    slow = socket.socket()
+    slow.setsockopt(socket.SOL_SOCKET, socket.SO_RCVBUF, 4_096)
+    slow.connect(("127.0.0.1", one.port))
+    slow.sendall(f"GET /feed HTTP/{version}\r\nHost: 127.0.0.1\r\n\r\n".encode())
+    fast, phone = Feed(one.port), one.phone(1)
+    assert phone.answer(1, 0, "kickoff") == "entered"
+    for number in range(1, 600):
+        with open(one.folder / "a.csv", "a", encoding="ascii") as record:
+            record.write(f"1,1,{number},{'goal' if number % 2 else 'disallow'}-home\n")
+        if number % 100 == 0:
+            fast.until("screen", version=number + 1)
+    fast.until("screen", version=600)
+    assert until(lambda: health(one.port)["left_out"] > 0)
+    # It is read as who takes what a chunk says, or all until the end.
+    shown = [0]
+    slow.settimeout(15)
+    with slow, slow.makefile("rb") as lines:
+        while shown[-1] < 600:
+            line = lines.readline()
+            said = json.loads(line) if line.startswith(b"{") else {}
+            shown += [said["version"]] if said.get("reply") == "screen" else []
+    assert shown[1:] == sorted(set(shown[1:])) and len(shown) < 500
+
+
+def test_a_reader_that_takes_nothing_ends(hall: Halls) -> None:
+    """It has half a minute; what it sends ends it at once."""
+    one = hall("--reporter", "1")
+    silent, loud = socket.socket(), socket.socket()
+    for each in silent, loud:
+        each.setsockopt(socket.SOL_SOCKET, socket.SO_RCVBUF, 4_096)
+        each.connect(("127.0.0.1", one.port))
+        each.sendall(b"GET /feed HTTP/1.1\r\nHost: 127.0.0.1\r\n\r\n")
+    assert until(lambda: health(one.port)["screens"] == 2)
+    loud.sendall(b"x" * 2_000)
+    assert until(lambda: health(one.port)["screens"] == 1)
+    assert until(lambda: health(one.port)["screens"] == 0, 90)
+    for each in silent, loud:
+        each.close()
+
+
+def test_what_is_no_feed(hall: Halls) -> None:
+    one = hall("--reporter", "1")
+    with socket.create_connection(("127.0.0.1", one.port), 10) as other:
+        other.sendall(b"HEAD /feed HTTP/1.1\r\nHost: 127.0.0.1\r\n\r\n")
+        assert other.recv(100).startswith(b"HTTP/1.1 405 ")
+    for path in "/feed/", "/feeds", "/table", "/table.html", "/table.json/":
+        assert got(one.port, path)[0] == 404
+
+
+# ---- through a broker
+
+
+@pytest.fixture
+def broker(tmp_path: pathlib.Path) -> Iterator[int]:
+    """The port of a broker on this machine."""
+    needs("mosquitto", "mosquitto_pub", "mosquitto_sub", "curl", "bash")
+    port = free_port()
+    (tmp_path / "broker").write_text(f"listener {port} 127.0.0.1\nallow_anonymous true\n")
+    with Started(["mosquitto", "-c", str(tmp_path / "broker")]):
+        assert until(lambda: is_reached(port))
+        yield port
+
+
+class Shell:
+    """Lines that are typed in a shell, with the addresses of this test in place of the page's."""
+
+    def __init__(self, lines: str, server: int, broker: int, **env: str) -> None:
+        text = lines.replace("192.168.1.5:8080", f"127.0.0.1:{server}").replace(
+            "0.0.0.0", "127.0.0.1"
+        )
+        for name in "mosquitto_pub", "mosquitto_sub":
+            text = text.replace(name, f"{name} -p {broker}")
+        how: dict[str, Any] = {"cwd": TOP, "env": {**os.environ, **env}, "start_new_session": True}
+        self.process = Started(["bash", "-c", f"{text}wait\n"], **how)
+
+    def end(self) -> None:
+        """Ends all that it has started."""
+        os.killpg(self.process.pid, signal.SIGKILL)
+        self.process.wait()
+
+
+@pytest.mark.limit(300)
+def test_the_page_s_lines_through_a_broker(hall: Halls, broker: int, follow: str) -> None:
+    """Tables and a mirror behind it, also for who comes late; and a server that is killed."""
+    typed = lines_to_type(TOP / "docs/OPERATE.md")
+    shown, served = typed["Behind the broker"].splitlines(True)
+    one, port = hall("--reporter", "1", "--title", "Finals"), free_port()
+    env = {"UCL_FOLLOW": follow, "UCL_LIVE": one.how["env"]["UCL_LIVE"]}
+    shells = [Shell(typed["Through a broker"], one.port, broker)]
+    try:
+        phone = one.phone(1)
+        assert phone.answer(1, 0, "kickoff") == "entered"
+        received = ["mosquitto_sub", "-p", str(broker), "-t", "ucl/a/screen", "-W", "20", "-C", "1"]
+        assert until(lambda: '"version":1' in command(received).output, 60)
+        served = served.replace("0.0.0.0:8080", f"127.0.0.1:{port}")
+        shells += [Shell(shown.replace("./ucl_follow", follow), one.port, broker)]
+        shells += [Shell(served, one.port, broker, **env)]
+        tables, matches = shells[1].process, model.fresh()
+        matches[0].enter(1, "kickoff")
+        assert tables.lines(6) == model.screen(matches)
+        assert until(lambda: is_reached(port))
+        assert until(lambda: health(port)["groups"].get("A", {}).get("is_there"), 60)
+        assert got(port, "/table.txt")[2] == model.screen(matches)
+        one.end()
+        assert until(lambda: not health(port)["groups"]["A"]["is_there"], 60)
+        one.start()
+        assert one.phone(1).answer(1, 1, "goal-home") == "entered"
+        matches[0].enter(1, "goal-home")
+        assert tables.lines(6) == model.screen(matches)
+        assert until(lambda: got(port, "/table.txt")[2] == model.screen(matches))
+        assert until(lambda: health(port)["groups"]["A"]["is_there"])
+    finally:
+        for shell in shells:
+            shell.end()
+
+
+def test_the_page_s_lines_of_curl(hall: Halls) -> None:
+    """Each of the three as it stands there; the feed goes on until it is ended."""
+    needs("curl")
+    section = (TOP / "docs/OPERATE.md").read_text().split("### A feed for the desk")[1]
+    lines = re.findall("^    (curl .*)$", section, re.M)[:3]
+    one = hall("--reporter", "1")
+    feed, text, said = [it.replace("192.168.1.5:8080", f"127.0.0.1:{one.port}") for it in lines]
+    assert command(text.split()).output == model.screen(model.fresh())
+    with Started(feed.split()) as reader:
+        assert reader.lines(1) == command(said.split()).output
+        assert json.loads(reader.lines(2).splitlines()[1])["reply"] == "pulse"
+        assert reader.poll() is None

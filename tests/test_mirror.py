@@ -1,0 +1,387 @@
+"""Servers that follow another: what they show, whatever becomes of the lines on their way."""
+
+import json
+import os
+import random
+import signal
+import time
+from collections.abc import Callable, Iterator
+from typing import Any
+
+import pytest
+from conftest import command, free_port
+from feeds import SERVE, Feed, Mirror, got, health, lines_of, until
+from test_page import browser as browser
+from test_serve import Socket
+from test_serve import hall as hall
+
+pytestmark = pytest.mark.limit(200)
+Halls = Callable[..., Any]
+Mirrors = Callable[..., Mirror]
+# A match of some events, in rows behind the clubs.
+ROWS = ["1,1,0,kickoff", *(f"1,1,{it},goal-{'home' if it % 2 else 'away'}" for it in range(1, 40))]
+LINES = lines_of("".join(row + "\n" for row in ROWS))
+PULSE = json.dumps({"reply": "pulse", "groups": "A", "moments": {"A": [0, len(LINES)]}})
+
+
+@pytest.fixture
+def mirrors(live: str, follow: str) -> Iterator[Mirrors]:
+    """A function that starts a mirror."""
+    started = list[Mirror]()
+
+    def mirror(*words: str, port: int = 0) -> Mirror:
+        started.append(Mirror(live, follow, *words, port=port))
+        return started[-1]
+
+    yield mirror
+    for one in started:
+        one.kill()
+
+
+def source(port: int, group: str = "") -> list[str]:
+    """The words by which a server follows that at this port."""
+    asked = f"?group={group}" if group else ""
+    return ["--follow", f"http://127.0.0.1:{port}/feed{asked}"]
+
+
+def table(one: Any, group: str = "A") -> Any:
+    """The screen that a server shows of a group, but for the number of its line."""
+    said = json.loads(got(one.port, f"/table.json?group={group}")[2])
+    return {name: value for name, value in said.items() if name != "row"}
+
+
+def put(mirror: Mirror, lines: list[str]) -> None:
+    """Writes lines into the input of a mirror."""
+    mirror.process.write("".join(line + "\n" for line in lines))
+
+
+def versions(feed: Feed, last: int) -> list[int]:
+    """The versions that come, until this one."""
+    feed.until("screen", version=last)
+    return [it["version"] for it in feed.lines if it["reply"] == "screen"]
+
+
+# ---- by feeds
+
+
+def test_a_mirror_of_a_mirror_shows_what_the_board_shows(hall: Halls, mirrors: Mirrors) -> None:
+    """Title and matches of the evening too; pages and feed, but no reporter."""
+    one = hall("--reporter", "1:1,2", "--title", "Finals", records=("a.csv", "b.csv"))
+    first = mirrors(*source(one.port))
+    second = mirrors(*source(first.port))
+    assert second.printed == f"Screens: http://127.0.0.1:{second.port}/\n"
+    assert second.shows(0) and second.shows(0, group="B")
+    screen, feed = Socket(second.port, "/lines"), Feed(second.port, "/feed?group=A")
+    phone = one.phone(1)
+    for number, event in enumerate(["kickoff", "goal-home", "yellow-away"]):
+        assert phone.answer(1, number, event) == "entered"
+    assert screen.until("screen", version=3, group="A") and versions(feed, 3) == [0, 1, 2, 3]
+    named = {
+        "reply": "hall",
+        "title": "Finals",
+        "groups": "AB",
+        "tonight": {"A": [1, 2], "B": [1, 2]},
+    }
+    assert screen.lines[0] == named
+    assert table(one) == table(first) == table(second) and table(one, "B") == table(second, "B")
+    assert got(second.port, "/table.txt?group=A")[2] == got(one.port, "/table.txt?group=A")[2]
+    assert got(second.port, "/")[2] == got(one.port, "/")[2]
+    assert until(lambda: second.is_there() and second.is_there("B"))
+    key = one.key(1)
+    assert got(second.port, f"/report/{key}")[0] == 404
+    assert Socket(second.port, f"/report/{key}/taps").status == 404
+    with open(one.folder / "a.csv", "a", encoding="ascii") as record:
+        record.write("mend,7,,\nclub,1,Alfa,60000\n")
+    assert second.shows(2, edition=2) and table(one) == table(second)
+    # Another evening: each reporter has all matches, so none are named.
+    one.words = ("--reporter", "1")
+    one.end()
+    one.start()
+    assert screen.until("hall", title="", groups="AB", tonight={})
+
+
+def test_the_board_is_killed_and_comes_back(hall: Halls, mirrors: Mirrors) -> None:
+    """Who looks on is told that the picture is old, also who comes then; it never goes back."""
+    one = hall("--reporter", "1")
+    mirror = mirrors(*source(one.port))
+    assert one.phone(1).answer(1, 0, "kickoff") == "entered"
+    assert mirror.shows(1) and until(mirror.is_there)
+    early = Socket(mirror.port, "/lines")
+    assert early.until("pulse", groups="A")
+    one.process.send_signal(signal.SIGSTOP)
+    assert early.until("pulse", groups="") and not mirror.is_there()
+    late = Socket(mirror.port, "/lines")
+    assert late.until("screen", version=1) and late.receive() == {
+        "reply": "pulse",
+        "groups": "",
+        "moments": {},
+    }
+    old = int(got(mirror.port, "/table.txt")[1]["age"])
+    assert until(lambda: int(got(mirror.port, "/table.txt")[1]["age"]) > old >= 3)
+    one.process.send_signal(signal.SIGCONT)
+    assert until(mirror.is_there)
+    one.end()
+    assert until(lambda: not mirror.is_there())
+    one.start()
+    assert until(mirror.is_there) and "age" not in got(mirror.port, "/table.txt")[1]
+    assert one.phone(1).answer(1, 1, "goal-home") == "entered"
+    assert early.until("screen", version=2) and late.until("screen", version=2)
+    shown = [it["version"] for it in early.lines if it["reply"] == "screen"]
+    assert shown == sorted(shown)
+    told = mirror.end(signal.SIGTERM)
+    named = f"ucl_serve: http://127.0.0.1:{one.port}/feed: "
+    ways = ("nothing comes", "it has ended", "no connection")
+    lost = [f"{named}{why}; it is tried again until it is there" for why in ways]
+    lines = told.errors.splitlines()
+    assert told.status == 0 and lines and set(lines[::2]) <= set(lost)
+    assert lines[1::2] == [f"{named}it is there again"] * (len(lines) // 2)
+
+
+def test_the_mirror_is_killed_and_comes_back(hall: Halls, mirrors: Mirrors) -> None:
+    """Who followed it has the newest soon, whoever was away when it was entered."""
+    one = hall("--reporter", "1")
+    mirror = mirrors(*source(one.port))
+    other = mirrors(*source(mirror.port))
+    assert other.shows(0)
+    mirror.end()
+    assert one.phone(1).answer(1, 0, "kickoff") == "entered"
+    assert until(lambda: not other.is_there()) and table(other)["version"] == 0
+    mirror.start()
+    assert other.shows(1) and until(other.is_there)
+
+
+def test_its_followers_are_killed(hall: Halls, mirrors: Mirrors) -> None:
+    """No table goes back, and none is lost."""
+    one = hall("--reporter", "1")
+    mirror = mirrors(*source(one.port))
+    assert mirror.shows(0)
+    feed, phone = Feed(mirror.port), one.phone(1)
+    assert phone.answer(1, 0, "kickoff") == "entered"
+    for number in range(1, 31):
+        event = "goal-home" if number % 2 else "disallow-home"
+        # A phone taps twenty times a second at most.
+        time.sleep(0.05)
+        if number % 3 == 0:
+            for child in mirror.children():
+                os.kill(child, signal.SIGKILL)
+        assert phone.answer(1, number, event) == "entered"
+    shown = versions(feed, 31)
+    assert shown == sorted(set(shown)) and until(mirror.is_there)
+    assert mirror.end(signal.SIGTERM) == (0, "", "")
+
+
+def test_the_page_of_a_mirror(hall: Halls, mirrors: Mirrors, browser: Any) -> None:
+    """It says `No signal` as soon as it is opened, if the board is gone, and goes on by itself."""
+    one = hall("--reporter", "1")
+    mirror = mirrors(*source(one.port))
+    assert one.phone(1).answer(1, 0, "kickoff") == "entered" and mirror.shows(1)
+
+    def says(version: str, signal: str) -> bool:
+        parts = [
+            browser.execute_script(f"return document.querySelector('.{name}').textContent")
+            for name in ("version", "signal")
+        ]
+        return parts == [version, signal]
+
+    browser.get(f"http://127.0.0.1:{mirror.port}/?details")
+    assert until(lambda: says("version 1", ""))
+    one.process.send_signal(signal.SIGSTOP)
+    assert until(lambda: says("version 1", "No signal")) and not mirror.is_there()
+    browser.refresh()
+    assert until(lambda: says("version 1", "No signal"), 3)
+    one.process.send_signal(signal.SIGCONT)
+    assert until(lambda: says("version 1", ""))
+    assert one.phone(1).answer(1, 1, "goal-home") == "entered"
+    assert until(lambda: says("version 2", ""))
+
+
+def test_several_of_one_record_make_one_picture(hall: Halls, mirrors: Mirrors) -> None:
+    """The newest of all, also where one of them is behind, or gone, or of one group alone."""
+    one = hall("--reporter", "1", records=("a.csv", "b.csv"))
+    way = mirrors(*source(one.port))
+    both = mirrors(*source(way.port), *source(one.port, "A"))
+    assert both.shows(0) and both.shows(0, group="B")
+    way.process.send_signal(signal.SIGSTOP)
+    phone, feed = one.phone(1), Feed(both.port, "/feed?group=A")
+    for number, event in enumerate(["kickoff", "goal-home", "goal-home"]):
+        assert phone.answer(1, number, event) == "entered"
+    # Pulses are of all groups, and that of B stands as it did.
+    assert both.shows(3) and until(both.is_there) and both.is_there("B")
+    other = one.phone(1, "b.csv")
+    assert other.answer(1, 0, "kickoff") == "entered"
+    assert until(lambda: not both.is_there("B")) and both.is_there()
+    way.process.send_signal(signal.SIGCONT)
+    assert both.shows(1, group="B") and until(lambda: both.is_there("B"))
+    one.end()
+    assert until(lambda: not both.is_there()) and table(both)["version"] == 3
+    assert versions(feed, 3) == [0, 1, 2, 3]
+
+
+def test_a_server_that_is_none(mirrors: Mirrors, hall: Halls) -> None:
+    """It is told once, and tried until it is there."""
+    one, port = hall("--reporter", "1"), free_port()
+    page, none = f"http://127.0.0.1:{one.port}/health", f"http://127.0.0.1:{port}/feed"
+    mirror = mirrors("--follow", page, "--follow", none)
+    assert got(mirror.port, "/table.txt")[::2] == (503, "no board is known here yet\n")
+    assert Feed(mirror.port).next() == {"reply": "hall", "title": "", "groups": "", "tonight": {}}
+    time.sleep(3)
+    told = mirror.end(signal.SIGTERM)
+    assert sorted(told.errors.splitlines()) == sorted(
+        f"ucl_serve: {url}: {why}; it is tried again until it is there"
+        for url, why in ((page, "it answers 200, and no feed"), (none, "no connection"))
+    )
+
+
+# ---- by whatever pipe
+
+
+def test_lines_of_a_pipe_in_any_order(mirrors: Mirrors, follow: str) -> None:
+    """What is shown is what `ucl_follow` shows of them: lost, repeated, reordered, cut off."""
+    chance = random.Random(2021)
+    for _ in range(3):
+        lines = [line for line in LINES for _ in range(chance.choice([0, 1, 1, 2]))]
+        for _ in range(40):
+            place = chance.randrange(len(lines))
+            lines.insert(min(len(lines), place + chance.randrange(6)), lines.pop(place))
+        lines.insert(7, LINES[20][:500])
+        text = "".join(line + "\n" for line in lines)
+        wanted = command([follow, "--format", "json"], text).output.splitlines()
+        mirror = mirrors("--follow", "-")
+        put(mirror, lines)
+        last = json.loads(wanted[-1])
+        # A line that is cut off is none of a group, and has no number there.
+        del last["row"]
+        assert mirror.shows(last["version"]) and table(mirror) == last
+
+
+def test_lines_of_a_pipe_as_they_come(mirrors: Mirrors, follow: str) -> None:
+    """Each that is shown is one of those of `ucl_follow`, in their order."""
+    lines = [*LINES[:5], LINES[2], *LINES[8:4:-1], LINES[30], *LINES[9:31], LINES[31]]
+    text = "".join(line + "\n" for line in lines)
+    wanted = command([follow, "--format", "json"], text).output.splitlines()
+    mirror = mirrors("--follow", "-")
+    put(mirror, lines[:1])
+    assert mirror.shows(1)
+    feed = Feed(mirror.port)
+    for line in lines[1:]:
+        put(mirror, [line])
+        time.sleep(0.01)
+    feed.until("screen", version=32)
+    assert [it for it in feed.lines if it["reply"] == "screen"] == [json.loads(it) for it in wanted]
+
+
+def test_a_pipe_that_loses_the_last_line(mirrors: Mirrors) -> None:
+    """Nobody is told that the picture is the board's, until it is."""
+    mirror = mirrors("--follow", "-")
+    put(mirror, [*LINES[:-1], PULSE])
+    assert mirror.shows(len(LINES) - 1)
+    for _ in range(4):
+        put(mirror, [PULSE])
+        time.sleep(0.3)
+    assert not mirror.is_there() and int(got(mirror.port, "/table.txt")[1]["age"]) >= 1
+    put(mirror, [LINES[-1]])
+    assert mirror.shows(len(LINES)) and until(mirror.is_there)
+    # A pulse of a board that was begun anew is none of this picture.
+    begun_anew = PULSE.replace(str([0, len(LINES)]), "[0, 0]")
+    end = time.monotonic() + 5
+    while time.monotonic() < end:
+        put(mirror, [begun_anew])
+        time.sleep(0.3)
+    assert not mirror.is_there() and table(mirror)["version"] == len(LINES)
+
+
+def test_a_pipe_without_pulses_and_its_end(mirrors: Mirrors) -> None:
+    """What is shown is called old: nobody knows whether the board is there."""
+    mirror = mirrors("--follow", "-")
+    put(mirror, LINES)
+    assert mirror.shows(len(LINES)) and not mirror.is_there()
+    mirror.end_input()
+    screen = Socket(mirror.port, "/lines")
+    assert screen.until("screen", version=len(LINES)) and screen.receive()["groups"] == ""
+    ended = "ucl_serve: standard input has ended: nothing newer comes from there\n"
+    assert mirror.told() == ended
+    assert mirror.end(signal.SIGTERM) == (0, "", "")
+
+
+HOSTILE = [
+    "",
+    "null",
+    "[" * 4_000,
+    '{"reply":"pulse","moments":[1]}',
+    '{"reply":"pulse","moments":{"A":[0]}}',
+    '{"reply":"pulse","moments":{"A":[true,1e9]}}',
+    '{"reply":"hall","title":7,"groups":[1],"tonight":{"A":"x","Z":[1]}}',
+    '{"reply":"hall","title":"\\u001b[2J\\u202e","groups":"ZA","tonight":{"A":[{},1]}}',
+    '{"group":"A"}',
+    '{"group":"AB"}',
+    '{"group":["A"]}',
+    '{"group":"A","order":"uefa","edition":65536}',
+    "x" * 5_000,
+    LINES[0].replace('"A"', '"I"'),
+    LINES[20].replace("2001", "3001"),
+    LINES[20] + " " * 4_000,
+    "\udcff\udcfe",
+]
+
+
+def test_lines_that_are_none_of_a_feed(mirrors: Mirrors) -> None:
+    """They change nothing that is shown, and end nothing."""
+    mirror = mirrors("--follow", "-")
+    put(mirror, [*HOSTILE, LINES[0], *HOSTILE])
+    assert mirror.shows(1)
+    put(mirror, [*HOSTILE * 20, LINES[1]])
+    assert mirror.shows(2) and [*health(mirror.port)["groups"]] == ["A"]
+    screen = Socket(mirror.port, "/lines")
+    assert screen.receive() == {
+        "reply": "hall",
+        "title": "?[2J?",
+        "groups": "A",
+        "tonight": {"A": [1]},
+    }
+    assert mirror.end(signal.SIGTERM) == (0, "", "")
+
+
+def test_a_follower_is_killed_before_it_has_read(mirrors: Mirrors) -> None:
+    """The line is given to the next one, which tells nothing twice."""
+    mirror = mirrors("--follow", "-")
+    put(mirror, LINES[:1])
+    assert mirror.shows(1)
+    feed = Feed(mirror.port)
+    for version in range(2, 12):
+        (child,) = mirror.children()
+        os.kill(child, signal.SIGSTOP)
+        put(mirror, [LINES[version - 1], LINES[0]])
+        assert not mirror.shows(version, seconds=0.1)
+        os.kill(child, signal.SIGKILL)
+        assert mirror.shows(version)
+    assert versions(feed, 11) == [*range(1, 12)]
+
+
+def test_a_long_pipe_takes_no_memory(mirrors: Mirrors) -> None:
+    """Lines wait in the pipe while the follower reads; repeated ones are not kept."""
+    mirror = mirrors("--follow", "-")
+    for _ in range(100):
+        put(mirror, LINES * 3)
+    put(mirror, [LINES[-1]])
+    assert mirror.shows(len(LINES))
+    status = open(f"/proc/{mirror.process.pid}/status", encoding="ascii").read()
+    assert int(status.split("VmHWM:")[1].split()[0]) < 100 << 10
+
+
+def test_command_lines_that_are_refused(hall: Halls) -> None:
+    refused: list[list[str]] = [
+        ["--follow", "here"],
+        ["--follow", "http://127.0.0.1:8080/"],
+        ["--follow", "ftp://x/feed"],
+        ["--follow", "-", "a.csv"],
+        ["--follow", "-", "--reporter", "1"],
+        ["--follow", "-", "--new-keys"],
+        ["--follow", "-", "--clubs", "x"],
+        ["--follow", "-", "--tonight", "1"],
+        ["--follow", "-", "--revoke", "1"],
+        ["--follow", "-", "--links"],
+        [],
+    ]
+    for words in refused:
+        ran: Any = command([SERVE, *words, "--listen", f"127.0.0.1:{free_port()}"])
+        assert ran.status == 2 and "error: " in ran.errors and ran.output == "", words

@@ -1,0 +1,1 @@
+"""A record: a file of rows that only grows, and the board that it is."""

@@ -1,0 +1,1 @@
+"""A board behind a server: a terminal on another machine connects as a phone does."""

@@ -1,0 +1,1 @@
+"""A reporter at a terminal, or with lines from elsewhere: the command `ucl_reporter`."""

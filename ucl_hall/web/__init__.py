@@ -1,0 +1,1 @@
+"""Screens and phones of several groups: the command `ucl_serve`."""

@@ -1,0 +1,164 @@
+"""A mirror: what other servers show, from their lines as they came, in any order and repeated.
+
+The lines of a group are `ucl_follow`'s to judge, and what that shows is shown here: ever newer
+moments, whichever of several sources was first. No line of screens says that a board is there now:
+pulses do, and each says at which moment the board is.
+"""
+
+import asyncio
+import json
+import time
+from collections.abc import Mapping
+from dataclasses import dataclass, field, replace
+
+from ucl_hall.engine.answers import Moment, Reply
+from ucl_hall.engine.follow import Follow
+from ucl_hall.program import text_of
+from ucl_hall.rows import GROUPS, MATCHES
+from ucl_hall.text import printable, warn
+from ucl_hall.web.server import Server
+from ucl_hall.web.shown import Shown
+
+# How long a pulse holds, in seconds.
+HOLDS = 3.0
+Said = Mapping[str, object]
+Age = tuple[int, int]
+
+
+@dataclass
+class Names:
+    """What another server says of itself: its title, and the matches of the evening by groups."""
+
+    title: str = ""
+    tonight: dict[str, list[int]] = field(default_factory=dict)
+
+
+class MirroredGroup:
+    """A group of which other servers tell."""
+
+    def __init__(self, letter: str, follow: Follow, names: Names) -> None:
+        self.letter, self.follow, self.fault, self._names = letter, follow, "", names
+        # The last pulse: edition and version of the board, and when it came; and the latest of all.
+        self._pulse: Age = (-1, -1)
+        self._latest, self._pulsed_at = self._pulse, 0.0
+        # When what is shown was last known to be the board's, and when this began.
+        self._known_at, self._begun_at = 0.0, time.monotonic()
+        follow.listen(lambda _: self._note())
+        follow.over.add_done_callback(self._end)
+
+    @property
+    def moment(self) -> Moment:
+        """The newest moment of the lines that came."""
+        return self.follow.moment
+
+    @property
+    def silence(self) -> int:
+        """For how many seconds no pulse has said that the board is there, and at this moment."""
+        past = time.monotonic() - (self._known_at or self._begun_at)
+        return 0 if self._known_at and past <= HOLDS and not self.fault else 1 + int(past)
+
+    def hear(self, age: Age) -> None:
+        """Takes a pulse: the board is there, at this edition and version."""
+        self._pulse, self._pulsed_at = age, time.monotonic()
+        self._latest = max(self._latest, age)
+        self._note()
+
+    def tonight(self) -> list[int] | None:
+        """The matches of the evening, where the other server names them."""
+        return self._names.tonight.get(self.letter) or None
+
+    def health(self) -> dict[str, object]:
+        """What whoever watches it is told."""
+        told = {"edition": self.moment.edition, "version": self.moment.version}
+        return {**told, "is_there": not self.silence, "silence": self.silence, "fault": self.fault}
+
+    def _note(self) -> None:
+        """Notes that what is shown is the board's, if the last pulse says so, and no later one was
+        ever told of: a line may be lost, and a source may be behind."""
+        if self.follow.has_shown and self._pulse == self._latest == self.moment.age:
+            self._known_at = self._pulsed_at
+
+    def _end(self, over: "asyncio.Future[None]") -> None:
+        if not over.cancelled():
+            self.fault = text_of(over.exception())
+            warn(f"ucl_serve: group {self.letter}: {self.fault}")
+
+
+class Mirror:
+    """The groups of which lines tell, as a server shows them, under its own title or theirs."""
+
+    def __init__(self, server: Server, groups: list[Shown], program: str) -> None:
+        self._server, self._groups, self._program = server, groups, program
+        self._has_title = bool(server.title)
+        self._names, self._known = Names(), dict[str, MirroredGroup]()
+
+    async def take(self, line: bytes) -> None:
+        """Takes a line of any source: one that is none of a feed changes nothing."""
+        said = _said(line)
+        letter = said.get("group")
+        if said.get("reply") == "pulse":
+            self._hear(said)
+        elif said.get("reply") == "hall":
+            self._name(said)
+        elif _is_letter(letter):
+            group = await self._group(str(letter))
+            await group.follow.feed(line)
+
+    async def close(self) -> None:
+        """Ends the children."""
+        for group in self._known.values():
+            await group.follow.end()
+
+    async def _group(self, letter: str) -> MirroredGroup:
+        if letter not in self._known:
+            follow = Follow(self._program, letter)
+            self._known[letter] = group = MirroredGroup(letter, follow, self._names)
+            follow.listen(lambda reply: self._show(group, reply))
+            await follow.start()
+        return self._known[letter]
+
+    def _show(self, group: MirroredGroup, reply: Reply) -> None:
+        """Sends a moment to who looks on; the first of a group changes what there is."""
+        if group in self._groups:
+            self._server.screens.send(group.letter, reply.answer.line)
+        else:
+            self._groups.append(group)
+            self._groups.sort(key=lambda it: it.letter)
+            self._server.tell_groups()
+
+    def _hear(self, said: Said) -> None:
+        moments = said.get("moments")
+        for letter, age in moments.items() if isinstance(moments, dict) else ():
+            if letter in self._known and _is_age(age):
+                self._known[letter].hear((age[0], age[1]))
+
+    def _name(self, said: Said) -> None:
+        title, groups, tonight = (said.get(name) for name in ("title", "groups", "tonight"))
+        before = replace(self._names, tonight={**self._names.tonight})
+        if isinstance(title, str):
+            self._names.title = printable(title)
+        if isinstance(groups, str) and isinstance(tonight, dict):
+            for letter in filter(_is_letter, groups):
+                named = tonight.get(letter)
+                matches = [it for it in MATCHES if isinstance(named, list) and it in named]
+                self._names.tonight[letter] = matches
+        if self._names != before:
+            self._server.title = self._server.title if self._has_title else self._names.title
+            self._server.tell_groups()
+
+
+def _said(line: bytes) -> Said:
+    """The members of a line; none of what is no object."""
+    try:
+        said = json.loads(line)
+    except (ValueError, RecursionError):
+        return {}
+    return said if isinstance(said, dict) else {}
+
+
+def _is_letter(value: object) -> bool:
+    return isinstance(value, str) and len(value) == 1 and value in GROUPS
+
+
+def _is_age(value: object) -> bool:
+    return isinstance(value, list) and [type(it) for it in value] == [int, int]

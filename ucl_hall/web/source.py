@@ -1,0 +1,107 @@
+"""Where the lines of a mirror come from: the feed of another server, or standard input."""
+
+import asyncio
+import contextlib
+import os
+import threading
+from collections.abc import Awaitable, Callable
+
+import aiohttp
+
+from ucl_hall.text import warn
+from ucl_hall.web.feed import KIND
+
+Take = Callable[[bytes], Awaitable[None]]
+# The most bytes of a line; a longer one is passed over.
+LONGEST = 4_096
+# Seconds: a feed that says nothing for so long is opened again, after so long a pause.
+SILENCE, PAUSE = 5.0, 1.0
+PIECE = 1 << 16
+INPUT = "-"
+
+
+class _NoFeed(Exception):
+    """An address has something else."""
+
+
+class Lines:
+    """Bytes as they come, cut into lines."""
+
+    def __init__(self, take: Take) -> None:
+        self._take, self._rest, self._is_long = take, b"", False
+
+    async def add(self, piece: bytes) -> None:
+        """Takes a piece, and hands on the lines that end in it."""
+        *lines, self._rest = (self._rest + piece).split(b"\n")
+        for line in lines:
+            if not self._is_long and len(line) <= LONGEST:
+                await self._take(line)
+            self._is_long = False
+        if len(self._rest) > LONGEST:
+            self._rest, self._is_long = b"", True
+
+
+async def follow(source: str, take: Take) -> None:
+    """Hands on the lines of a source, a URL or `-`: of a URL for ever, of standard input until its
+    end. Tells on standard error when it comes and goes."""
+    if source == INPUT:
+        await _follow_input(take)
+    else:
+        await _follow_feed(source, take)
+
+
+async def _follow_feed(url: str, take: Take) -> None:
+    told = False
+    timeout = aiohttp.ClientTimeout(total=None, sock_connect=SILENCE, sock_read=SILENCE)
+    async with aiohttp.ClientSession(timeout=timeout) as session:
+        while True:
+            try:
+                async with session.get(url, headers={"Accept-Encoding": "identity"}) as answer:
+                    if answer.status != 200 or answer.content_type != KIND:
+                        raise _NoFeed(f"it answers {answer.status}, and no feed")
+                    if told:
+                        warn(f"ucl_serve: {url}: it is there again")
+                        told = False
+                    lines = Lines(take)
+                    async for piece in answer.content.iter_any():
+                        await lines.add(piece)
+                why = "it has ended"
+            except (_NoFeed, aiohttp.ClientSSLError) as error:
+                why = str(error)
+            except (aiohttp.ClientConnectionError, OSError):
+                why = "no connection"
+            except aiohttp.ClientError:
+                why = "it has ended"
+            except asyncio.TimeoutError:
+                why = "nothing comes"
+            if not told:
+                warn(f"ucl_serve: {url}: {why}; it is tried again until it is there")
+                told = True
+            await asyncio.sleep(PAUSE)
+
+
+async def _follow_input(take: Take) -> None:
+    pieces: asyncio.Queue[bytes] = asyncio.Queue()
+    loop, room = asyncio.get_running_loop(), threading.Semaphore(4)
+
+    def read() -> None:
+        # The loop may be over meanwhile: a read of a pipe can not be ended.
+        with contextlib.suppress(RuntimeError):
+            while piece := _piece():
+                room.acquire()
+                loop.call_soon_threadsafe(pieces.put_nowait, piece)
+            loop.call_soon_threadsafe(pieces.put_nowait, b"")
+
+    threading.Thread(target=read, daemon=True).start()
+    lines = Lines(take)
+    while piece := await pieces.get():
+        await lines.add(piece)
+        room.release()
+    warn("ucl_serve: standard input has ended: nothing newer comes from there")
+
+
+def _piece() -> bytes:
+    """What comes next on standard input; nothing at its end, and where it can not be read."""
+    with contextlib.suppress(OSError):
+        return os.read(0, PIECE)
+    return b""
