@@ -27,18 +27,29 @@ def modules_of(top):
     """The modules of the package by their names, each with its tree."""
     for path in sorted((top / PACKAGE).rglob("*.py")):
         if path.name != "__init__.py":
-            yield ".".join(path.relative_to(top / PACKAGE).with_suffix("").parts), ast.parse(path.read_text())
+            yield ".".join(path.relative_to(top / PACKAGE).with_suffix("").parts), ast.parse(
+                path.read_text()
+            )
 
 
 def python_is_typed(top):
     """mypy finds nothing in the package and in the examples in Python, and Black would set no line otherwise; where one is missing, that is told."""
     found = []
-    for tool, words in ("mypy", ["--no-error-summary"]), ("black", ["--quiet", "--check", "--diff"]):
+    for tool, words in ("mypy", ["--no-error-summary"]), (
+        "black",
+        ["--quiet", "--check", "--diff"],
+    ):
         if not shutil.which(tool):
             print(f"not looked at: {tool} is not installed")
             continue
         for folder in *TYPED, *(TESTS if tool == "black" else []):
-            ran = subprocess.run([tool, *words, folder], cwd=top, stdout=subprocess.PIPE, stderr=subprocess.STDOUT, universal_newlines=True)
+            ran = subprocess.run(
+                [tool, *words, folder],
+                cwd=top,
+                stdout=subprocess.PIPE,
+                stderr=subprocess.STDOUT,
+                universal_newlines=True,
+            )
             found += ran.stdout.splitlines()[:20] if ran.returncode else []
     return found
 
@@ -58,8 +69,14 @@ def imports_point_one_way(top):
     uses = {name: {*used_by(tree, trees)} for name, tree in trees.items()}
     part = {name: name.split(".")[0] for name in trees}
     found = [f"{name}: is in no part of the package" for name in trees if part[name] not in order]
-    found += [f"{name} imports {used}" for name, them in uses.items() for used in sorted(them)
-              if part[name] in order and part[used] in order and order.index(part[used]) > order.index(part[name])]
+    found += [
+        f"{name} imports {used}"
+        for name, them in uses.items()
+        for used in sorted(them)
+        if part[name] in order
+        and part[used] in order
+        and order.index(part[used]) > order.index(part[name])
+    ]
     left = dict(uses)
     while free := [name for name, them in left.items() if not them & {*left}]:
         left = {name: them for name, them in left.items() if name not in free}
@@ -71,15 +88,27 @@ def storage_has_no_words(top):
     found = []
     for name, tree in modules_of(top):
         told = [node.value for node in ast.walk(tree) if isinstance(node, ast.Expr)]
-        found += [f"{name}:{node.lineno}: {node.value!r}" for node in ast.walk(tree) if name.split(".")[0] in SILENT
-                  and isinstance(node, ast.Constant) and isinstance(node.value, str) and node not in told and SENTENCE.search(node.value)]
+        found += [
+            f"{name}:{node.lineno}: {node.value!r}"
+            for node in ast.walk(tree)
+            if name.split(".")[0] in SILENT
+            and isinstance(node, ast.Constant)
+            and isinstance(node.value, str)
+            and node not in told
+            and SENTENCE.search(node.value)
+        ]
     return found
 
 
 def functions_are_short(top):
     """A function of the package has at most forty lines."""
-    return [f"{name}.{node.name}: {node.end_lineno - node.lineno + 1} lines" for name, tree in modules_of(top) for node in ast.walk(tree)
-            if isinstance(node, (ast.FunctionDef, ast.AsyncFunctionDef)) and node.end_lineno - node.lineno >= LONGEST_FUNCTION]
+    return [
+        f"{name}.{node.name}: {node.end_lineno - node.lineno + 1} lines"
+        for name, tree in modules_of(top)
+        for node in ast.walk(tree)
+        if isinstance(node, (ast.FunctionDef, ast.AsyncFunctionDef))
+        and node.end_lineno - node.lineno >= LONGEST_FUNCTION
+    ]
 
 
 def refusals_are_as_they_are_told(top):
@@ -87,10 +116,24 @@ def refusals_are_as_they_are_told(top):
     sys.path.insert(0, str(top))
     from ucl_hall.refusals import ADVICE
 
-    page = {name: (typed, tapped) for name, typed, tapped in ROW.findall((top / "docs/OPERATE.md").read_text())}
+    page = {
+        name: (typed, tapped)
+        for name, typed, tapped in ROW.findall((top / "docs/OPERATE.md").read_text())
+    }
     told = {name: (it.typed.format(**SHOWN), it.tapped or "-") for name, it in ADVICE.items()}
-    return [f"{name}: the page has {page.get(name)}, and it is {it}" for name, it in told.items() if name in page and page[name] != it] + [
-        f"{name}: is not on the page" for name in told if name not in page and name not in ("dropped", "lost")] + [f"{name}: is no refusal" for name in page if name not in told]
+    return (
+        [
+            f"{name}: the page has {page.get(name)}, and it is {it}"
+            for name, it in told.items()
+            if name in page and page[name] != it
+        ]
+        + [
+            f"{name}: is not on the page"
+            for name in told
+            if name not in page and name not in ("dropped", "lost")
+        ]
+        + [f"{name}: is no refusal" for name in page if name not in told]
+    )
 
 
 LOOKS = [

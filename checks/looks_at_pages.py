@@ -11,7 +11,10 @@ SOURCES = "crates.txt crates/*/src/**/*.rt crates/*/specs/*.antt crates/*/proofs
 SOURCES += " ucl_hall/**/*.py ucl_hall/web/pages/*.html examples/*.expected crates/*/*.h examples/python/*.py examples/rust/*.rs packaging/*"
 SUM = re.compile(r"\blogic(?: sum)?(?: is)? `?([0-9a-f]{16})\b")
 # A path of the machine that a text was written on, and how the work is organised; data and marks of matches are no such texts.
-STRAY = re.compile(r"(?<![\w.])/(?:work|root)/|\.\./shared/|\bissue #?\d|\b(?:sessions? of the project|handover)\b", re.I)
+STRAY = re.compile(
+    r"(?<![\w.])/(?:work|root)/|\.\./shared/|\bissue #?\d|\b(?:sessions? of the project|handover)\b",
+    re.I,
+)
 LABEL = re.compile(r"(?<![\w.'\"`-])(?:T[1-5]\.[1-7]|[DRW][1-9]\d?|K[1-8]|G2|S6)(?![\w'\"`])")
 CRATES = "docs/ARCHITECTURE.md"
 # A row that says how much one reads to believe statements, which are named in its first cell.
@@ -20,25 +23,49 @@ COUNTED = r"^\| (.*?) \| (\d+), (\d+), (\d+) \| (\d+), (\d+) \| (\d+) \|$"
 
 def pages(top):
     """The pages whose names are looked up. CHANGELOG.md is about what was, so it names what is gone too."""
-    return [path for path in [top / "README.md", top / "CONTRIBUTING.md", *sorted((top / "docs").glob("*.md"))] if path.exists()]
+    return [
+        path
+        for path in [
+            top / "README.md",
+            top / "CONTRIBUTING.md",
+            *sorted((top / "docs").glob("*.md")),
+        ]
+        if path.exists()
+    ]
 
 
 def readable(top):
     """All pages."""
-    return [*pages(top), top / "CHANGELOG.md", *sorted(top.glob("bench/*.md")), *sorted(top.glob("examples/**/README.md"))]
+    return [
+        *pages(top),
+        top / "CHANGELOG.md",
+        *sorted(top.glob("bench/*.md")),
+        *sorted(top.glob("examples/**/README.md")),
+    ]
 
 
 def file_is_there(top, path):
     """The path is of a file or folder of the repository, or of a crate; words in capitals stand for any name, and out/ is what is built."""
-    pattern = re.sub(r"\b[A-Z]{2,}\b", "*", re.sub(r"/out(/.*)?$", "", path.strip("/")).replace("./", ""))
-    places = pattern, f"ucl_hall/{pattern}", f"crates/*/{pattern}", f"crates/*/{pattern}.antt", f"crates/*/src/{pattern}"
+    pattern = re.sub(
+        r"\b[A-Z]{2,}\b", "*", re.sub(r"/out(/.*)?$", "", path.strip("/")).replace("./", "")
+    )
+    places = (
+        pattern,
+        f"ucl_hall/{pattern}",
+        f"crates/*/{pattern}",
+        f"crates/*/{pattern}.antt",
+        f"crates/*/src/{pattern}",
+    )
     return any(True for place in places for _ in top.glob(place))
 
 
 def anchors_of(page):
     """The places of a page that a link can name."""
     heads = re.findall(r"^#+ (.*)$", BLOCK.sub("", page.read_text()), re.M)
-    return {re.sub(r"[^\w\- ]", "", re.sub(r"\]\([^)]*\)", "", head)).lower().replace(" ", "-") for head in heads}
+    return {
+        re.sub(r"[^\w\- ]", "", re.sub(r"\]\([^)]*\)", "", head)).lower().replace(" ", "-")
+        for head in heads
+    }
 
 
 def links_lead_somewhere(top):
@@ -48,8 +75,15 @@ def links_lead_somewhere(top):
         text = BLOCK.sub(lambda block: "\n" * block[0].count("\n"), page.read_text())
         for link in re.finditer(r"\]\(([^)#:\s]*)(?:#([^)\s]*))?\)", text):
             target = page.parent / link[1] if link[1] else page
-            if not link[1] + (link[2] or "") or not target.exists() or link[2] and link[2] not in anchors_of(target):
-                found.append(f"{page.relative_to(top)}:{text.count(chr(10), 0, link.start()) + 1}: {link[0][2:-1]} is not there")
+            if (
+                not link[1] + (link[2] or "")
+                or not target.exists()
+                or link[2]
+                and link[2] not in anchors_of(target)
+            ):
+                found.append(
+                    f"{page.relative_to(top)}:{text.count(chr(10), 0, link.start()) + 1}: {link[0][2:-1]} is not there"
+                )
     return found
 
 
@@ -66,9 +100,16 @@ def names_are_there(top):
             for name in re.findall(r"`([^`]+)`", line):
                 first = name.split(" ")[0]
                 is_name = re.fullmatch(rf"{WORD}(::{WORD})*", name)
-                if re.search(r"\w/|/\w", first) and not file_is_there(top, first) or is_name and not {*name.split("::")} <= words:
+                if (
+                    re.search(r"\w/|/\w", first)
+                    and not file_is_there(top, first)
+                    or is_name
+                    and not {*name.split("::")} <= words
+                ):
                     lost.append(name)
-                elif re.fullmatch(r"\w+\.(md|txt|rt|antt|py|html|h)", name) and not any(top.glob(f"**/{name}")):
+                elif re.fullmatch(r"\w+\.(md|txt|rt|antt|py|html|h)", name) and not any(
+                    top.glob(f"**/{name}")
+                ):
                     lost.append(name)
             found += [f"{page.relative_to(top)}:{number}: `{name}` is not there" for name in lost]
     return found
@@ -84,7 +125,11 @@ def lines_fit(top):
             most = 140 if is_code or line.startswith("    ") else 100
             if line.startswith("|"):
                 longest = max(len(cell.strip()) for cell in line.strip("|").split("|"))
-                found += [f"{page.relative_to(top)}:{number}: a cell of {longest} characters"] if longest > 160 else []
+                found += (
+                    [f"{page.relative_to(top)}:{number}: a cell of {longest} characters"]
+                    if longest > 160
+                    else []
+                )
             elif len(line) > most and not line.startswith("!["):
                 found.append(f"{page.relative_to(top)}:{number}: {len(line)} columns")
     return found
@@ -92,8 +137,12 @@ def lines_fit(top):
 
 def pages_name_their_readers(top):
     """The third line of a page says whom it is for, but that of the README, which is for all."""
-    return [f"{page.relative_to(top)}: its third line does not begin with 'For'" for page in readable(top)
-            if page != top / "README.md" and not "".join(page.read_text().split("\n")[2:3]).startswith("For ")]
+    return [
+        f"{page.relative_to(top)}: its third line does not begin with 'For'"
+        for page in readable(top)
+        if page != top / "README.md"
+        and not "".join(page.read_text().split("\n")[2:3]).startswith("For ")
+    ]
 
 
 def crates_are_listed(top):
@@ -102,14 +151,33 @@ def crates_are_listed(top):
     section = (top / CRATES).read_text().split("\n## The crates\n", 1)[-1].split("\n## ", 1)[0]
     rows = [line.split("|") for line in section.split("\n") if line.startswith("| `")]
     told = [name for row in rows for name in re.findall(r"`(\w+)`", row[1])]
-    uses, [trusted] = sources.crates_of(top), re.findall(r"Statements of the kit's crates\*\*:([^.]*), and `mathlib`\.", (top / "docs/PROOF.md").read_text())
-    kit = {it for crate, below in uses.items() if not sources.UNPROVED.search(crate) for it in below} - {*uses}
-    found = [f"{name}: in the table of crates {told.count(name)} times" for name in sorted({*told, *uses}) if told.count(name) != (name in uses)]
+    uses, [trusted] = sources.crates_of(top), re.findall(
+        r"Statements of the kit's crates\*\*:([^.]*), and `mathlib`\.",
+        (top / "docs/PROOF.md").read_text(),
+    )
+    kit = {
+        it for crate, below in uses.items() if not sources.UNPROVED.search(crate) for it in below
+    } - {*uses}
+    found = [
+        f"{name}: in the table of crates {told.count(name)} times"
+        for name in sorted({*told, *uses})
+        if told.count(name) != (name in uses)
+    ]
     for row in rows:
-        texts = "".join(path.read_text() for crate in re.findall(r"`(\w+)`", row[1]) for path in top.glob(f"crates/{crate}/src/**/*.rt"))
-        found += [f"{row[1].strip()} has no `{name}`" for name in re.findall(r"`([^`]+)`", row[3])
-                  if texts and not re.search(rf"\b(fn|struct|enum|trait) {name.split('::')[-1]}\b", texts)]
-    return found + [f"{name}: of the kit, and trusted or used alone" for name in sorted(kit ^ {*re.findall(r"`(\w+)`", trusted)})]
+        texts = "".join(
+            path.read_text()
+            for crate in re.findall(r"`(\w+)`", row[1])
+            for path in top.glob(f"crates/{crate}/src/**/*.rt")
+        )
+        found += [
+            f"{row[1].strip()} has no `{name}`"
+            for name in re.findall(r"`([^`]+)`", row[3])
+            if texts and not re.search(rf"\b(fn|struct|enum|trait) {name.split('::')[-1]}\b", texts)
+        ]
+    return found + [
+        f"{name}: of the kit, and trusted or used alone"
+        for name in sorted(kit ^ {*re.findall(r"`(\w+)`", trusted)})
+    ]
 
 
 def pages_quote(top):
@@ -117,18 +185,35 @@ def pages_quote(top):
     found = []
     for page in "docs/READING.md", "docs/PROOF.md":
         text = (top / page).read_text()
-        for name, block in re.findall(r"`(crates/[^`\n]+)`:\n\n```\w+\n(.*?)\n```$", text, re.M | re.S):
-            lines, wanted = ([line.strip() for line in it.split("\n")] for it in ((top / name).read_text() if (top / name).exists() else "", block))
+        for name, block in re.findall(
+            r"`(crates/[^`\n]+)`:\n\n```\w+\n(.*?)\n```$", text, re.M | re.S
+        ):
+            lines, wanted = (
+                [line.strip() for line in it.split("\n")]
+                for it in ((top / name).read_text() if (top / name).exists() else "", block)
+            )
             if not any(lines[at : at + len(wanted)] == wanted for at in range(len(lines))):
                 found.append(f"{page}: these lines are not in {name}: {wanted[0]}")
-        found += [] if text.count("```") == 2 * text.count("`:\n\n```") else [f"{page}: a block without a file above it"]
+        found += (
+            []
+            if text.count("```") == 2 * text.count("`:\n\n```")
+            else [f"{page}: a block without a file above it"]
+        )
     return found
 
 
 def closure_of(top, names):
     """What `checks/closure` counts of these definitions: them, their lines and files, types and their lines, names of the kit; nothing if one is not there."""
-    said = subprocess.run([top / "checks/closure", *names], stdout=subprocess.PIPE, stderr=subprocess.DEVNULL, universal_newlines=True).stdout
-    counts = re.search(r"(\d+) definitions, (\d+) lines in (\d+) files; (\d+) types, (\d+) lines; (\d+) names of the kit$", said.strip())
+    said = subprocess.run(
+        [top / "checks/closure", *names],
+        stdout=subprocess.PIPE,
+        stderr=subprocess.DEVNULL,
+        universal_newlines=True,
+    ).stdout
+    counts = re.search(
+        r"(\d+) definitions, (\d+) lines in (\d+) files; (\d+) types, (\d+) lines; (\d+) names of the kit$",
+        said.strip(),
+    )
     return list(counts.groups() if counts else ())
 
 
@@ -138,19 +223,38 @@ def counts_are_right(top):
     found = [] if rows else ["docs/PROOF.md: no row says how much one reads"]
     for names, *told in rows:
         read = closure_of(top, re.findall(r"`(\w+)`", names))
-        found += [] if told == read else [f"docs/PROOF.md: {names}: {' '.join(told)}, and checks/closure has {' '.join(read) or 'no such names'}"]
+        found += (
+            []
+            if told == read
+            else [
+                f"docs/PROOF.md: {names}: {' '.join(told)}, and checks/closure has {' '.join(read) or 'no such names'}"
+            ]
+        )
     return found
 
 
 def logic_sum_is_told(top):
     """The README and the version of the programs tell the logic sum of the kit that is installed. Its letter may be another, so no program tells that."""
-    kit = SUM.findall(subprocess.run(["rt", "version"], stdin=subprocess.DEVNULL, stdout=subprocess.PIPE, universal_newlines=True).stdout)
+    kit = SUM.findall(
+        subprocess.run(
+            ["rt", "version"],
+            stdin=subprocess.DEVNULL,
+            stdout=subprocess.PIPE,
+            universal_newlines=True,
+        ).stdout
+    )
     files = "README.md", "crates/ucl_command/src/help.rt"
     told = {name: sorted({*SUM.findall((top / name).read_text())}) for name in files}
-    letters = [path.relative_to(top) for path in sorted(top.glob("crates/*/src/**/*.rt")) if re.search(r"rattle-kit-\w", path.read_text())]
-    return [f"{name}: tells the logic sum {', '.join(sums) or 'of no kit'}, and the kit's is {', '.join(kit) or 'not to be had'}" for name, sums in told.items() if sums != kit] + [
-        f"{name}: tells the letter of a kit" for name in letters
+    letters = [
+        path.relative_to(top)
+        for path in sorted(top.glob("crates/*/src/**/*.rt"))
+        if re.search(r"rattle-kit-\w", path.read_text())
     ]
+    return [
+        f"{name}: tells the logic sum {', '.join(sums) or 'of no kit'}, and the kit's is {', '.join(kit) or 'not to be had'}"
+        for name, sums in told.items()
+        if sums != kit
+    ] + [f"{name}: tells the letter of a kit" for name in letters]
 
 
 def texts_are_for_readers(top):
@@ -160,7 +264,9 @@ def texts_are_for_readers(top):
         if path.suffix in (".csv", ".expected", ".png") or path.name.startswith("looks"):
             continue
         for number, line in enumerate(path.read_text(errors="replace").split("\n"), 1):
-            stray = STRAY.search(line) or (LABEL.search(line) if path.suffix in (".md", ".antt", ".rt", ".edit") else None)
+            stray = STRAY.search(line) or (
+                LABEL.search(line) if path.suffix in (".md", ".antt", ".rt", ".edit") else None
+            )
             found += [f"{path.relative_to(top)}:{number}: {stray[0]}"] if stray else []
     return found
 

@@ -25,7 +25,8 @@ UNPROVED = re.compile(r"_tests$|_bench|_hostile|_example$")
 
 class Function(typing.NamedTuple):
     """A function: its file, its name as the prover has it below the crate, the trait and the type that it is of, its own name, whether others
-    may call it, what it says of itself, its text up to the body, and the first and last line of that."""
+    may call it, what it says of itself, its text up to the body, and the first and last line of that.
+    """
 
     path: str
     symbol: str
@@ -50,7 +51,10 @@ class Function(typing.NamedTuple):
     @property
     def clauses(self):
         """Each clause: the word that it begins with, its label, and its text."""
-        return [(it[1], it[2] or "", " ".join(enclosed(self.head, it.end()).split())) for it in CLAUSE.finditer(self.head)]
+        return [
+            (it[1], it[2] or "", " ".join(enclosed(self.head, it.end()).split()))
+            for it in CLAUSE.finditer(self.head)
+        ]
 
     @property
     def is_law(self):
@@ -83,18 +87,31 @@ def block_at(lines, start):
     names = re.sub(r"^impl(<.*?>)? (?=[A-Z]|\w+::)", "", head).split(" for ")
     names = [re.sub(r"<.*", "", name).strip().split("::")[-1] for name in names]
     source = re.search(r"\bFrom<((?:\w+::)*\w+)", head)
-    more = "".join(part[0].upper() + part[1:] for part in source[1].split("::") if part != "crate") if source else ""
+    more = (
+        "".join(part[0].upper() + part[1:] for part in source[1].split("::") if part != "crate")
+        if source
+        else ""
+    )
     return (*([None] if len(names) == 1 else []), *names[:2], more)
 
 
 def body_of(lines, start, indent):
     """The lines on which the body of a function begins and ends; a method of a trait may have none, and then ends where its last clause does."""
-    opens = tuple(indent + word for word in ("{", "{}", "fn", "pub", "const", "unsafe", "extern", ")"))
-    ends = (at for at in range(start, len(lines)) if lines[at].endswith("};") or (lines[at].endswith(("{", "{}", ";")) and lines[at].startswith(opens)))
+    opens = tuple(
+        indent + word for word in ("{", "{}", "fn", "pub", "const", "unsafe", "extern", ")")
+    )
+    ends = (
+        at
+        for at in range(start, len(lines))
+        if lines[at].endswith("};")
+        or (lines[at].endswith(("{", "{}", ";")) and lines[at].startswith(opens))
+    )
     body = next(ends, len(lines) - 1)
     if lines[body].endswith(("{}", ";")):
         return body, body
-    return body, next((at for at in range(body, len(lines)) if lines[at] == indent + "}"), len(lines) - 1)
+    return body, next(
+        (at for at in range(body, len(lines)) if lines[at] == indent + "}"), len(lines) - 1
+    )
 
 
 def said_above(lines, at):
@@ -123,12 +140,26 @@ def functions_in(path, text, homes):
             types = [owner + trait + more if trait and trait != owner else owner] if owner else []
             home = module_of(path) if trait else homes.get(owner, module_of(path))
             symbol, is_public = "::".join([*home, *types, head[4]]), bool(head[2] or head[3])
-            yield Function(path, symbol, trait, owner, head[4], is_public, said_above(lines, at), "\n".join(lines[at : body + 1]), body, after)
+            yield Function(
+                path,
+                symbol,
+                trait,
+                owner,
+                head[4],
+                is_public,
+                said_above(lines, at),
+                "\n".join(lines[at : body + 1]),
+                body,
+                after,
+            )
 
 
 def functions_of(crate):
     """The functions of the crate in this folder."""
-    texts = {str(file.relative_to(crate)): file.read_text() for file in sorted((crate / "src").glob("**/*.rt"))}
+    texts = {
+        str(file.relative_to(crate)): file.read_text()
+        for file in sorted((crate / "src").glob("**/*.rt"))
+    }
     homes = {name: module_of(path) for path, text in texts.items() for name in TYPE.findall(text)}
     return [it for path, text in texts.items() for it in functions_in(path, text, homes)]
 
@@ -138,22 +169,49 @@ def callable_functions(crate):
     if not (crate / "src/lib.rt").exists() or UNPROVED.search(crate.name):
         return []
     text = (crate / "src/lib.rt").read_text()
-    names = {name.strip() for many, one in re.findall(r"^pub use (?:\w+::)*(?:\{([^}]*)\}|(\w+));", text, re.M) for name in (many or one).split(",")}
+    names = {
+        name.strip()
+        for many, one in re.findall(r"^pub use (?:\w+::)*(?:\{([^}]*)\}|(\w+));", text, re.M)
+        for name in (many or one).split(",")
+    }
     modules = {*re.findall(r"^pub mod (\w+);", text, re.M)}
-    is_named = lambda it: it.name in names or it.path.split("/")[-1][:-3] in modules or 'extern "C"' in it.head or it.is_law
-    return [it for it in functions_of(crate) if (it.owner in names and (it.is_public or it.trait) if it.owner else it.is_public and is_named(it))]
+    is_named = (
+        lambda it: it.name in names
+        or it.path.split("/")[-1][:-3] in modules
+        or 'extern "C"' in it.head
+        or it.is_law
+    )
+    return [
+        it
+        for it in functions_of(crate)
+        if (
+            it.owner in names and (it.is_public or it.trait)
+            if it.owner
+            else it.is_public and is_named(it)
+        )
+    ]
 
 
 def promises_of(top, name):
     """Each function of a crate that a caller can name, with its clauses. A method without clauses of its own has those of its trait."""
-    used = [it for crate in [name, *below(crates_of(top), name)] for it in functions_of(top / "crates" / crate)]
+    used = [
+        it
+        for crate in [name, *below(crates_of(top), name)]
+        for it in functions_of(top / "crates" / crate)
+    ]
     of_traits = {(it.owner, it.name): it.clauses for it in used if it.trait == it.owner}
-    return [(it, it.clauses or of_traits.get((it.trait, it.name), [])) for it in callable_functions(top / "crates" / name)]
+    return [
+        (it, it.clauses or of_traits.get((it.trait, it.name), []))
+        for it in callable_functions(top / "crates" / name)
+    ]
 
 
 def comment_of(lines):
     """The comment that these lines begin with."""
-    return " ".join(line.strip().lstrip("- ") for line in itertools.takewhile(lambda line: line.strip().startswith("--"), lines))
+    return " ".join(
+        line.strip().lstrip("- ")
+        for line in itertools.takewhile(lambda line: line.strip().startswith("--"), lines)
+    )
 
 
 def definitions_in(path):
@@ -171,14 +229,20 @@ def defined_in(path):
             found.append((name[1], comment_of(lines[start:at]), at))
         start = start if line.strip().startswith("--") else at + 1
     ends = [at for _, _, at in found[1:]] + [len(lines)]
-    return [(name, says, "\n".join(line for line in lines[at:end] if not line.strip().startswith("--"))) for (name, says, at), end in zip(found, ends)]
+    return [
+        (name, says, "\n".join(line for line in lines[at:end] if not line.strip().startswith("--")))
+        for (name, says, at), end in zip(found, ends)
+    ]
 
 
 def fields_in(path):
     """The records of a file, each with its fields: the comment above it, if it has one, its label, and its text."""
     for head, body in RECORD.findall(path.read_text()):
         parts = re.split(r"^ {2,4}pub (\w+) :", body, flags=re.M)
-        said = [comment_of(re.search(r"(?:^ *--.*\n?)*\Z", part, re.M)[0].splitlines()) for part in parts[0::2]]
+        said = [
+            comment_of(re.search(r"(?:^ *--.*\n?)*\Z", part, re.M)[0].splitlines())
+            for part in parts[0::2]
+        ]
         texts = [" ".join(re.sub(r"^ *--.*", "", part, flags=re.M).split()) for part in parts[2::2]]
         yield head, list(zip(said, parts[1::2], texts))
 
@@ -196,13 +260,23 @@ def below(uses, crate):
 
 def files_of(top):
     """The files that the repository holds, those of a change under way among them."""
-    ran = subprocess.run(["git", "-C", str(top), "ls-files", "-co", "--exclude-standard"], stdout=subprocess.PIPE, universal_newlines=True)
-    return [path for path in (top / name for name in sorted({*ran.stdout.split("\n")} - {""})) if path.is_file() and not path.is_symlink()]
+    ran = subprocess.run(
+        ["git", "-C", str(top), "ls-files", "-co", "--exclude-standard"],
+        stdout=subprocess.PIPE,
+        universal_newlines=True,
+    )
+    return [
+        path
+        for path in (top / name for name in sorted({*ran.stdout.split("\n")} - {""}))
+        if path.is_file() and not path.is_symlink()
+    ]
 
 
 def broken_by(edit):
     """The clauses that a wrong body breaks, by its lines `breaks:`."""
-    words = [line.split()[1:] for line in edit.read_text().split("\n") if line.startswith("breaks:")]
+    words = [
+        line.split()[1:] for line in edit.read_text().split("\n") if line.startswith("breaks:")
+    ]
     return [f"{line[0]} {label}".strip() for line in words for label in line[1:] or [""]]
 
 
@@ -219,7 +293,9 @@ def edited(crate, edit):
             old = text
         elif word == "new":
             if path is None or not old or texts[path].count(old) != 1:
-                raise ValueError(f"an 'old:' text is there {texts[path].count(old) if path and old else 0} times, and not once: {old}")
+                raise ValueError(
+                    f"an 'old:' text is there {texts[path].count(old) if path and old else 0} times, and not once: {old}"
+                )
             texts[path], old = texts[path].replace(old, text), None
     if texts == {path: path.read_text() for path in texts}:
         raise ValueError("it changes nothing")

@@ -9,14 +9,31 @@ import json
 import re
 
 csv.field_size_limit(1 << 30)
-FIXTURES = [(2, 3), (4, 1), (1, 2), (3, 4), (3, 1), (2, 4), (1, 3), (4, 2), (3, 2), (1, 4), (2, 1), (4, 3)]
+FIXTURES = [
+    (2, 3),
+    (4, 1),
+    (1, 2),
+    (3, 4),
+    (3, 1),
+    (2, 4),
+    (1, 3),
+    (4, 2),
+    (3, 2),
+    (1, 4),
+    (2, 1),
+    (4, 3),
+]
 SIDED = ["goal", "disallow", "yellow", "second-yellow", "red"]
-WORDS = ["kickoff", "fulltime", "reopen"] + [f"{kind}-{side}" for kind in SIDED for side in ("home", "away")]
+WORDS = ["kickoff", "fulltime", "reopen"] + [
+    f"{kind}-{side}" for kind in SIDED for side in ("home", "away")
+]
 SCHEDULED, IN_PLAY, FINISHED = range(3)
 STATES = "SCHEDULED", "IN PLAY", "FINISHED"
 # The clubs of the examples.
 ROSTER = [("Alpha", 60_000), ("Bravo", 95_000), ("Charlie", 60_000), ("Delta", 81_500)]
-CLUBS = "".join(f"club,{slot},{name},{coefficient}\n" for slot, (name, coefficient) in enumerate(ROSTER, 1))
+CLUBS = "".join(
+    f"club,{slot},{name},{coefficient}\n" for slot, (name, coefficient) in enumerate(ROSTER, 1)
+)
 # The most bytes of a line of an evening, and of a line that a follower reads.
 LONGEST_LINE, LONGEST_FOLLOWED = 256, 4_096
 # The last line of an evening that a mend can name, and the last edition.
@@ -34,8 +51,20 @@ class Match:
     def members(self, game):
         """The match with this number as it stands, in JSON."""
         home, away = FIXTURES[game - 1]
-        members = {"match": game, "home": home, "away": away, "number": self.number, "state": STATES[self.state], "reporter": self.reporter}
-        return {**members, "score": self.goals, "yellows": self.yellows, "expulsions": self.expulsions}
+        members = {
+            "match": game,
+            "home": home,
+            "away": away,
+            "number": self.number,
+            "state": STATES[self.state],
+            "reporter": self.reporter,
+        }
+        return {
+            **members,
+            "score": self.goals,
+            "yellows": self.yellows,
+            "expulsions": self.expulsions,
+        }
 
     def refusal(self, expected, word):
         """The first rule that refuses the event, as its number and name; None where none does."""
@@ -71,8 +100,20 @@ class Match:
 
     def word(self):
         """The match word."""
-        fields = [(self.number, 0), (self.state, 12), (self.goals[0], 14), (self.goals[1], 20), (self.yellows[0], 26)]
-        fields += [(self.yellows[1], 32), (self.expulsions[0], 38), (self.expulsions[1], 43), (self.reporter, 48), (2, 60)]
+        fields = [
+            (self.number, 0),
+            (self.state, 12),
+            (self.goals[0], 14),
+            (self.goals[1], 20),
+            (self.yellows[0], 26),
+        ]
+        fields += [
+            (self.yellows[1], 32),
+            (self.expulsions[0], 38),
+            (self.expulsions[1], 43),
+            (self.reporter, 48),
+            (2, 60),
+        ]
         return f"{sum(value << low for value, low in fields):016x}"
 
 
@@ -86,7 +127,11 @@ def match_of(word):
         m, most = Match(), (1 << width) - 1
         m.number, m.state, m.reporter = fields[0], fields[1], fields[8]
         m.goals, m.yellows, m.expulsions = fields[2:4], fields[4:6], fields[6:8]
-        is_begun = m.reporter > 0 and m.state in (IN_PLAY, FINISHED) and m.state <= m.number <= most - (m.state == IN_PLAY)
+        is_begun = (
+            m.reporter > 0
+            and m.state in (IN_PLAY, FINISHED)
+            and m.state <= m.number <= most - (m.state == IN_PLAY)
+        )
         if rest == above and (is_begun or not any(fields)):
             return m
     return None
@@ -126,7 +171,9 @@ def results(matches, club):
 
 def points(matches, club):
     """3 points for a win, 1 for a draw."""
-    return sum(3 * (ours > theirs) + (ours == theirs) for _, ours, theirs, _ in results(matches, club))
+    return sum(
+        3 * (ours > theirs) + (ours == theirs) for _, ours, theirs, _ in results(matches, club)
+    )
 
 
 def triple(matches, club):
@@ -151,7 +198,12 @@ def overall(matches, club, coefficients):
     seen = list(results(matches, club))
     away = [it for it in seen if it[0]]
     wins = [it for it in seen if it[1] > it[2]]
-    of_matches = triple(matches, club)[1:] + (sum(it[1] for it in away), len(wins), sum(it[1] > it[2] for it in away), -sum(it[3] for it in seen))
+    of_matches = triple(matches, club)[1:] + (
+        sum(it[1] for it in away),
+        len(wins),
+        sum(it[1] > it[2] for it in away),
+        -sum(it[3] for it in seen),
+    )
     return of_matches + (coefficients[club - 1], -club)
 
 
@@ -191,14 +243,28 @@ def places(matches, roster, away_counts):
         elif sum(reach[other] >= sure[club] for other in clubs if other != club) <= 1:
             mark = "+"
         else:
-            mark = "-" if sum(sure[other] > reach[club] for other in clubs if other != club) >= 2 else ""
+            mark = (
+                "-"
+                if sum(sure[other] > reach[club] for other in clubs if other != club) >= 2
+                else ""
+            )
         seen = list(results(begun, club))
         won, lost = sum(it[1] > it[2] for it in seen), sum(it[1] < it[2] for it in seen)
         ours, theirs = sum(it[1] for it in seen), sum(it[2] for it in seen)
         drawn = len(seen) - won - lost
         yield {
-            "place": place, "mark": mark, "slot": club, "club": roster[club - 1][0], "played": len(seen), "won": won, "drawn": drawn,
-            "lost": lost, "goals_for": ours, "goals_against": theirs, "goal_difference": ours - theirs, "points": 3 * won + drawn,
+            "place": place,
+            "mark": mark,
+            "slot": club,
+            "club": roster[club - 1][0],
+            "played": len(seen),
+            "won": won,
+            "drawn": drawn,
+            "lost": lost,
+            "goals_for": ours,
+            "goals_against": theirs,
+            "goal_difference": ours - theirs,
+            "points": 3 * won + drawn,
         }
 
 
@@ -208,7 +274,9 @@ def screen(matches, roster=ROSTER, group="A", away_counts=False):
     lines.append("    Club                  P  W  D  L  GF  GA   GD Pts")
     for it in places(matches, roster, away_counts):
         numbers = f"{it['played']:3}{it['won']:3}{it['drawn']:3}{it['lost']:3}{it['goals_for']:4}{it['goals_against']:4}"
-        lines.append(f"{it['place']} {it['mark'] or ' '} {it['club']:20}{numbers}{it['goal_difference']:+5}{it['points']:4}")
+        lines.append(
+            f"{it['place']} {it['mark'] or ' '} {it['club']:20}{numbers}{it['goal_difference']:+5}{it['points']:4}"
+        )
     return "".join(line + "\n" for line in lines)
 
 
@@ -224,7 +292,9 @@ def match_lines(matches, roster=ROSTER):
     for game, (m, (home, away)) in enumerate(zip(matches, FIXTURES), 1):
         stands = f"match {game:2} v{m.number:04} {STATES[m.state]:9} {m.goals[0]:2}-{m.goals[1]}"
         clubs = f"{roster[home - 1][0]} v {roster[away - 1][0]}"
-        lines.append(f"{stands} Y {sides(m.yellows)} E {sides(m.expulsions)} by {m.reporter:3} {clubs}\n")
+        lines.append(
+            f"{stands} Y {sides(m.yellows)} E {sides(m.expulsions)} by {m.reporter:3} {clubs}\n"
+        )
     return "".join(lines)
 
 
@@ -233,7 +303,9 @@ def match_lines(matches, roster=ROSTER):
 
 def records(text):
     """The records of comma separated values, as Python's own reader has them; an empty line is none."""
-    return [record for record in csv.reader(io.StringIO(text.replace("\r", "\n"), newline="")) if record]
+    return [
+        record for record in csv.reader(io.StringIO(text.replace("\r", "\n"), newline="")) if record
+    ]
 
 
 def number(text, most, low, high):
@@ -246,7 +318,11 @@ def number(text, most, low, high):
 def club(fields, slot):
     """The name and the coefficient of the club that a row names for a slot; None where it names none."""
     coefficient = number(fields[3], 9, 0, 999_999_999) if len(fields) == 4 else None
-    return None if coefficient is None or fields[:2] != ["club", str(slot)] else (fields[2], coefficient)
+    return (
+        None
+        if coefficient is None or fields[:2] != ["club", str(slot)]
+        else (fields[2], coefficient)
+    )
 
 
 def bad_slots(roster):
@@ -257,7 +333,11 @@ def bad_slots(roster):
 
 def numbers(fields):
     """The reporter, the match and the number that is expected of a row of four fields, each None where its field says none."""
-    return number(fields[0], 3, 1, 255), number(fields[1], 2, 1, 12), number(fields[2], 5, 0, 65_535)
+    return (
+        number(fields[0], 3, 1, 255),
+        number(fields[1], 2, 1, 12),
+        number(fields[2], 5, 0, 65_535),
+    )
 
 
 def event(fields):
@@ -275,9 +355,16 @@ def bad_field(fields):
 
 def mend(fields):
     """The row that a mend leaves out, and the edition that it names, one of them None; None where a row is no mend."""
-    if len(fields) != 4 or fields[0] != "mend" or fields[3] != "" or (fields[1] == "") == (fields[2] == ""):
+    if (
+        len(fields) != 4
+        or fields[0] != "mend"
+        or fields[3] != ""
+        or (fields[1] == "") == (fields[2] == "")
+    ):
         return None
-    said = number(fields[1], 10, 1, LAST_ROW) if fields[1] else number(fields[2], 5, 0, LAST_EDITION)
+    said = (
+        number(fields[1], 10, 1, LAST_ROW) if fields[1] else number(fields[2], 5, 0, LAST_EDITION)
+    )
     return None if said is None else (said, None) if fields[1] else (None, said)
 
 
@@ -299,8 +386,19 @@ def mended(events, without):
 
 def word(fields, game):
     """The word that a row gives for a match; None where it gives none."""
-    is_word = len(fields) == 4 and fields[0] == "word" and number(fields[1], 2, game, game) and fields[3] == ""
-    return fields[2] if is_word and len(fields[2]) == 16 and all(c in "0123456789abcdefABCDEF" for c in fields[2]) else None
+    is_word = (
+        len(fields) == 4
+        and fields[0] == "word"
+        and number(fields[1], 2, game, game)
+        and fields[3] == ""
+    )
+    return (
+        fields[2]
+        if is_word
+        and len(fields[2]) == 16
+        and all(c in "0123456789abcdefABCDEF" for c in fields[2])
+        else None
+    )
 
 
 def fields_on(row, line):
@@ -335,7 +433,15 @@ def parsed(text, reads=event, most=None):
     roster, found = [], []
     for row in range(1, max(len(rows), 4 + (most or 0)) + 1):
         fields = rows[row - 1] if row <= len(rows) else []
-        said = club(fields, row) if row <= 4 else reads(fields) if not most else reads(fields, row - 4) if row <= 4 + most else None
+        said = (
+            club(fields, row)
+            if row <= 4
+            else reads(fields)
+            if not most
+            else reads(fields, row - 4)
+            if row <= 4 + most
+            else None
+        )
         if said is None:
             raise Fault(f"input refused 20: row {row}")
         (roster if row <= 4 else found).append(said)
@@ -352,7 +458,11 @@ def entered(events, matches=None):
         refusal = m.refusal(expected, word)
         if not refusal:
             m.enter(reporter, word)
-        lines.append(f"{row} refused {refusal}\n" if refusal else f"{row} ok {game} {m.number} {version(matches)}\n")
+        lines.append(
+            f"{row} refused {refusal}\n"
+            if refusal
+            else f"{row} ok {game} {m.number} {version(matches)}\n"
+        )
     return matches, "".join(lines)
 
 
@@ -373,13 +483,22 @@ class Style:
         self.group = words[words.index("--group") + 1] if "--group" in words else "A"
         self.order = words[words.index("--order") + 1] if "--order" in words else "uefa"
         self.edition = 0
-        self.asked = {word[2:]: words[words.index(word) + 1] for word in ("--group", "--order") if word in words}
+        self.asked = {
+            word[2:]: words[words.index(word) + 1]
+            for word in ("--group", "--order")
+            if word in words
+        }
 
     def take(self, fields):
         """Takes a row of a group; False where it is none."""
         _, group, order, edition = fields
         number = int(edition) if re.fullmatch("[0-9]{1,5}", edition) else 65536
-        if len(group) != 1 or group not in "ABCDEFGH" or order not in ("uefa", "away-in-tie") or number > 65535:
+        if (
+            len(group) != 1
+            or group not in "ABCDEFGH"
+            or order not in ("uefa", "away-in-tie")
+            or number > 65535
+        ):
             return False
         if {"group": group, "order": order, **self.asked} != {"group": group, "order": order}:
             raise Fault("error: the row of the group differs from --group or --order")
@@ -392,14 +511,26 @@ class Style:
 
     def moment(self, matches, roster):
         """The members by which a screen in JSON stands for itself."""
-        members = {"group": self.group, "order": self.order, "edition": self.edition, "version": version(matches)}
+        members = {
+            "group": self.group,
+            "order": self.order,
+            "edition": self.edition,
+            "version": version(matches),
+        }
         return {**members, "clubs": clubs_of(roster), "words": [m.word() for m in matches]}
 
     def json(self, matches, roster, row):
         """The screen as a line of JSON."""
         table = list(places(matches, roster, self.order != "uefa"))
         games = [m.members(game) for game, m in enumerate(matches, 1)]
-        return {"reply": "screen", "row": row, "in_play": in_play(matches), "table": table, "matches": games, **self.moment(matches, roster)}
+        return {
+            "reply": "screen",
+            "row": row,
+            "in_play": in_play(matches),
+            "table": table,
+            "matches": games,
+            **self.moment(matches, roster),
+        }
 
 
 def night(subcommand, words, text):
@@ -415,14 +546,24 @@ def night(subcommand, words, text):
     except Fault as fault:
         return 3, "", f"{fault}\n"
     matches, replies = entered(events)
-    return 0, replies + sheet(matches) if subcommand == "feed" else "FINAL\n" + Style(words).screen(matches, roster), ""
+    return (
+        0,
+        replies + sheet(matches)
+        if subcommand == "feed"
+        else "FINAL\n" + Style(words).screen(matches, roster),
+        "",
+    )
 
 
 class Session:
     """An evening of `ucl_live` by the rules: how it answers, its clubs, and its matches once the board is open."""
 
     def __init__(self, words):
-        self.is_json, self.with_screens, self.style = "json" in words, "--screens" in words, Style(words)
+        self.is_json, self.with_screens, self.style = (
+            "json" in words,
+            "--screens" in words,
+            Style(words),
+        )
         self.roster, self.matches, self.begun = [], None, False
         # The events that stand, in their order: row, reporter, match and word.
         self.events = []
@@ -433,7 +574,11 @@ class Session:
 
     def shown(self, row):
         """The screen."""
-        return self.told(row, self.style.json(self.matches, self.roster, row), self.style.screen(self.matches, self.roster))
+        return self.told(
+            row,
+            self.style.json(self.matches, self.roster, row),
+            self.style.screen(self.matches, self.roster),
+        )
 
     def entered(self, row, said):
         """The reply to an event, and the screen where it follows."""
@@ -442,16 +587,35 @@ class Session:
         m = self.matches[game - 1]
         refusal = m.refusal(expected, word)
         if refusal:
-            return self.refused(row, refusal, **asked, **({"stands": m.members(game)} if refusal.startswith("1 ") else {}))
+            return self.refused(
+                row,
+                refusal,
+                **asked,
+                **({"stands": m.members(game)} if refusal.startswith("1 ") else {}),
+            )
         m.enter(reporter, word)
         self.events.append((row, reporter, game, word))
-        members = {"reply": "ok", **asked, "number": m.number, "version": version(self.matches), "edition": self.style.edition}
-        return self.told(row, members, f"{row} ok {game} {m.number} {version(self.matches)}\n") + (self.shown(row) if self.with_screens else [])
+        members = {
+            "reply": "ok",
+            **asked,
+            "number": m.number,
+            "version": version(self.matches),
+            "edition": self.style.edition,
+        }
+        return self.told(row, members, f"{row} ok {game} {m.number} {version(self.matches)}\n") + (
+            self.shown(row) if self.with_screens else []
+        )
 
     def refused(self, row, refusal, **more):
         """The reply to what is refused, in JSON with these members more."""
         code, name, *found = refusal.split()
-        members = {"reply": "refused", "code": int(code), "name": name, **({"number": int(found[0])} if found else {}), **more}
+        members = {
+            "reply": "refused",
+            "code": int(code),
+            "name": name,
+            **({"number": int(found[0])} if found else {}),
+            **more,
+        }
         return self.told(row, members, f"{row} refused {refusal}\n")
 
     def beginning(self, row, fields):
@@ -489,9 +653,23 @@ class Session:
         lines = []
         for number_, reporter, game, word, refusal in left_out if self.is_json else []:
             code, name = refusal.split()[:2]
-            members = {"reply": "left-out", "row": number_, "reporter": reporter, "match": game, "event": word, "code": int(code), "name": name}
+            members = {
+                "reply": "left-out",
+                "row": number_,
+                "reporter": reporter,
+                "match": game,
+                "event": word,
+                "code": int(code),
+                "name": name,
+            }
             lines.append(line_of(members))
-        members = {"reply": "mended", "left_out": len(left_out), "version": version(self.matches), "edition": later, **({} if without is None else {"without": without})}
+        members = {
+            "reply": "mended",
+            "left_out": len(left_out),
+            "version": version(self.matches),
+            "edition": later,
+            **({} if without is None else {"without": without}),
+        }
         lines += self.told(row, members, f"{row} mended {later} {version(self.matches)}\n")
         return lines + (self.shown(row) if self.with_screens else [])
 
@@ -507,20 +685,34 @@ class Session:
         if fields == ["screen", "", "", ""]:
             return self.shown(row)
         if fields == ["words", "", "", ""]:
-            return self.told(row, {"reply": "words", "words": [m.word() for m in self.matches]}, sheet(self.matches))
+            return self.told(
+                row,
+                {"reply": "words", "words": [m.word() for m in self.matches]},
+                sheet(self.matches),
+            )
         if fields == ["matches", "", "", ""]:
-            members = {"reply": "matches", "clubs": clubs_of(self.roster), "matches": [m.members(game) for game, m in enumerate(self.matches, 1)]}
+            members = {
+                "reply": "matches",
+                "clubs": clubs_of(self.roster),
+                "matches": [m.members(game) for game, m in enumerate(self.matches, 1)],
+            }
             return self.told(row, members, match_lines(self.matches, self.roster))
         said = event(fields)
         shown = re.match("[ -~]{0,64}", line)[0]
-        return self.refused(row, "20 bad-row", field=bad_field(fields), text=shown) if said is None else self.entered(row, said)
+        return (
+            self.refused(row, "20 bad-row", field=bad_field(fields), text=shown)
+            if said is None
+            else self.entered(row, said)
+        )
 
     def of(self, text):
         """The status, the output and the errors for a whole input."""
         lines = text.split("\n")
         lines = lines[:-1] if not lines[-1] else lines
         try:
-            answers = [answer for row, line in enumerate(lines, 1) for answer in self.answers(row, line)]
+            answers = [
+                answer for row, line in enumerate(lines, 1) for answer in self.answers(row, line)
+            ]
             if len(self.roster) < 4:
                 raise Fault(f"input refused 20: row {len(lines) + 1}")
         except Fault as fault:
@@ -538,7 +730,9 @@ def random_rows(chance, count):
     while len(rows) < count:
         number = chance.randint(1, 12)
         m = matches[number - 1]
-        word = {SCHEDULED: "kickoff", FINISHED: "reopen"}.get(m.state) or (chance.choice(in_play) if chance.random() < 0.99 else "fulltime")
+        word = {SCHEDULED: "kickoff", FINISHED: "reopen"}.get(m.state) or (
+            chance.choice(in_play) if chance.random() < 0.99 else "fulltime"
+        )
         if m.refusal(m.number, word) is None:
             rows.append(f"{2 - number % 2},{number},{m.number},{word}\n")
             m.enter(2 - number % 2, word)
@@ -552,12 +746,30 @@ def moment_of(line):
     """The group, the order, the edition, the roster and the matches of the moment that a line tells; None where it tells none."""
     try:
         said = json.loads(line)
-        group, order, edition, words = said["group"], said["order"], said.get("edition", 0), said["words"]
+        group, order, edition, words = (
+            said["group"],
+            said["order"],
+            said.get("edition", 0),
+            said["words"],
+        )
         roster = [(it["club"], it["coefficient"]) for it in said["clubs"]]
-        is_one = group in list("ABCDEFGH") and order in ("uefa", "away-in-tie") and len(roster) == 4 and len(words) == 12
+        is_one = (
+            group in list("ABCDEFGH")
+            and order in ("uefa", "away-in-tie")
+            and len(roster) == 4
+            and len(words) == 12
+        )
         is_one = is_one and type(edition) is int and 0 <= edition <= 65535
-        is_one = is_one and all(type(it) is str and word(["word", "1", it, ""], 1) for it in words) and all(type(c) is int and c >= 0 for _, c in roster)
-        return (group, order, edition, roster, matches_of(words)) if is_one and not bad_slots(roster) else None
+        is_one = (
+            is_one
+            and all(type(it) is str and word(["word", "1", it, ""], 1) for it in words)
+            and all(type(c) is int and c >= 0 for _, c in roster)
+        )
+        return (
+            (group, order, edition, roster, matches_of(words))
+            if is_one and not bad_slots(roster)
+            else None
+        )
     except (ValueError, KeyError, TypeError, RecursionError, Fault):
         return None
 
@@ -565,7 +777,12 @@ def moment_of(line):
 def followed(words, text):
     """The status, the output and the errors of `ucl_follow`."""
     lines = text.split("\n")[:-1]
-    told = [moment_of(line) if len(line.removesuffix("\r").encode(errors="surrogateescape")) <= LONGEST_FOLLOWED else None for line in lines]
+    told = [
+        moment_of(line)
+        if len(line.removesuffix("\r").encode(errors="surrogateescape")) <= LONGEST_FOLLOWED
+        else None
+        for line in lines
+    ]
     asked = lambda option: words[words.index(option) + 1] if option in words else None
     output, newest, shown, errors, others = "", None, 0, "", set()
     title = [asked("--group"), asked("--order")]
@@ -581,6 +798,14 @@ def followed(words, text):
             group, order, edition, roster, matches = moment
             style = Style(["--group", group, "--order", order])
             style.edition = edition
-            text = match_lines(matches, roster) if "--matches" in words else style.screen(matches, roster)
+            text = (
+                match_lines(matches, roster)
+                if "--matches" in words
+                else style.screen(matches, roster)
+            )
             output += line_of(style.json(matches, roster, row)) if "json" in words else text
-    return 0, output, errors + f"{len(lines)} lines, {shown} shown, {len(lines) - shown} passed over\n"
+    return (
+        0,
+        output,
+        errors + f"{len(lines)} lines, {shown} shown, {len(lines) - shown} passed over\n",
+    )

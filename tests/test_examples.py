@@ -16,11 +16,19 @@ WORD_OF = {"sheet": "show", "night": "night"}
 TOLD = "8 lines, 2 shown, 6 passed over\n"
 answers, screens = (text_of(EXAMPLES / f"followed.{ending}") for ending in ("jsonl", "expected"))
 
-test_examples = tabled({
-    **{f"{path.stem}": (f"ucl_night {WORD_OF.get(path.stem.split('_')[-1], 'feed')}", text_of(path), text_of(path.with_suffix(".expected")))
-       for path in sorted(EXAMPLES.glob("*.csv"))},
-    "what is shown of an evening that is followed": ("ucl_follow", answers, screens, 0, TOLD),
-})
+test_examples = tabled(
+    {
+        **{
+            f"{path.stem}": (
+                f"ucl_night {WORD_OF.get(path.stem.split('_')[-1], 'feed')}",
+                text_of(path),
+                text_of(path.with_suffix(".expected")),
+            )
+            for path in sorted(EXAMPLES.glob("*.csv"))
+        },
+        "what is shown of an evening that is followed": ("ucl_follow", answers, screens, 0, TOLD),
+    }
+)
 
 
 def test_writers_that_share_a_pipe(program, place):
@@ -32,20 +40,27 @@ def test_first_look(program, place):
     """The README's command, typed as it stands there, gives the table at its top."""
     program("ucl_live")
     (line,) = re.findall(r"^\(cat .*$", README, re.M)
-    assert command(["bash", "-c", line], cwd=place).output == re.search(r"^```\n((?s:.*?))^```$", README, re.M)[1]
+    assert (
+        command(["bash", "-c", line], cwd=place).output
+        == re.search(r"^```\n((?s:.*?))^```$", README, re.M)[1]
+    )
 
 
 def test_smallest_run(program, place):
     """The command of docs/REFERENCE.md, typed as it stands there, gives what stands below it."""
     program("ucl_night")
-    line, shown = re.search(r"^```console\n\$ (.*)\n((?s:.*?))^```$", text_of(TOP / "docs/REFERENCE.md"), re.M).groups()
+    line, shown = re.search(
+        r"^```console\n\$ (.*)\n((?s:.*?))^```$", text_of(TOP / "docs/REFERENCE.md"), re.M
+    ).groups()
     assert command(["bash", "-c", line], cwd=place).output == shown
 
 
 @pytest.mark.quick
 def test_lines_of_pages():
     """The lines by which pages have one start the server and the reporter's program are such as these take."""
-    lines = re.findall(r"^ *\./ucl_(serve|reporter) ([^>$\n]*)", README + text_of(TOP / "docs/OPERATE.md"), re.M)
+    lines = re.findall(
+        r"^ *\./ucl_(serve|reporter) ([^>$\n]*)", README + text_of(TOP / "docs/OPERATE.md"), re.M
+    )
     assert len(lines) >= 5
     for name, words in lines:
         (server if name == "serve" else terminal).options_of(shlex.split(words, comments=True))
@@ -54,7 +69,10 @@ def test_lines_of_pages():
 @pytest.mark.quick
 def test_lines_of_c():
     """The README's lines of C are lines of a program of docs/LIBRARY.md, which is compiled and run by its own test."""
-    (lines,), programs = (re.findall(r"^```c\n(.*?)^```$", page, re.M | re.S) for page in (README, text_of(TOP / "docs/LIBRARY.md")))
+    (lines,), programs = (
+        re.findall(r"^```c\n(.*?)^```$", page, re.M | re.S)
+        for page in (README, text_of(TOP / "docs/LIBRARY.md"))
+    )
     assert [program for program in programs if lines in re.sub(r"^ +", "", program, flags=re.M)]
 
 
@@ -63,14 +81,22 @@ def test_line_that_is_broken():
     """The change of one line that the README shows refused is a mutant, which the gate has refused."""
     new, old = re.search(r"put\s+`(\S+)`\s+in\s+place\s+of\s+`(\S+)`", README).groups()
     edits = [text_of(path) for path in TOP.glob("crates/ucl_order/must-fail/*.edit")]
-    assert [edit for edit in edits if f"file: src/order.rt\nold: for _round in {old} {{\nnew: for _round in {new} {{\n" in edit]
+    assert [
+        edit
+        for edit in edits
+        if f"file: src/order.rt\nold: for _round in {old} {{\nnew: for _round in {new} {{\n" in edit
+    ]
 
 
 @pytest.mark.quick
 def test_index():
     """The index of examples/ names each file and folder that is there."""
     names = re.findall(r"`([^` ]+)`", text_of(EXAMPLES / "README.md"))
-    assert [path.name for path in EXAMPLES.iterdir() if path.name != "README.md" and not any(fnmatch.fnmatch(path.name, name) for name in names)] == []
+    assert [
+        path.name
+        for path in EXAMPLES.iterdir()
+        if path.name != "README.md" and not any(fnmatch.fnmatch(path.name, name) for name in names)
+    ] == []
 
 
 # ---- sources
@@ -81,13 +107,19 @@ def test_program_of_the_page():
     """A page shows lines of the crate ucl_example, which the gate proves and runs, and its line of crates.txt."""
     page = text_of(TOP / "docs/LIBRARY.md")
     shown = re.search(r"^```rust\n(.*?)^```$", page, re.M | re.S)[1]
-    assert f"\n{shown}" in re.sub(r"^ +", "", text_of(TOP / "crates/ucl_example/src/main.rt"), flags=re.M)
-    assert next(line for line in text_of(TOP / "crates.txt").splitlines() if line.startswith("ucl_example:")) in " ".join(page.split())
+    assert f"\n{shown}" in re.sub(
+        r"^ +", "", text_of(TOP / "crates/ucl_example/src/main.rt"), flags=re.M
+    )
+    assert next(
+        line for line in text_of(TOP / "crates.txt").splitlines() if line.startswith("ucl_example:")
+    ) in " ".join(page.split())
 
 
 # The calls that lend out a pass's seat are there for their contracts, and have no example; nor have laws, whose body is empty.
 FOR_THEIR_CONTRACTS = {"seat"}
-CALL = re.compile(r"((?:^ *///(?: .*)?\n)*)(?:^ *#\[.*\n)*^(    )?(pub )?fn (\w+)((?s:.*?)(?:\{\}?|;)$)", re.M)
+CALL = re.compile(
+    r"((?:^ *///(?: .*)?\n)*)(?:^ *#\[.*\n)*^(    )?(pub )?fn (\w+)((?s:.*?)(?:\{\}?|;)$)", re.M
+)
 BLOCK = re.compile(r"^ *//[/!] ```\w*\n(.*?)^ *//[/!] ```$", re.M | re.S)
 
 
@@ -96,11 +128,18 @@ def calls_in(text):
     for comment, is_inside, is_public, name, rest in CALL.findall(text):
         is_law = rest.endswith("\n{}") or name in FOR_THEIR_CONTRACTS
         if (is_public or is_inside and "pub trait " in text) and not is_law:
-            yield name, [re.sub(r"^ */// ?", "", block, flags=re.M) for block in BLOCK.findall(comment)]
+            yield name, [
+                re.sub(r"^ */// ?", "", block, flags=re.M) for block in BLOCK.findall(comment)
+            ]
 
 
 BOARD_CRATES = ["ucl_live_board", "ucl_pass", "ucl_words"]
-CALLS = [call for crate in BOARD_CRATES for path in sorted((TOP / "crates" / crate).glob("src/*.rt")) for call in calls_in(text_of(path))]
+CALLS = [
+    call
+    for crate in BOARD_CRATES
+    for path in sorted((TOP / "crates" / crate).glob("src/*.rt"))
+    for call in calls_in(text_of(path))
+]
 HEAD = """#![tactic(auto)]
 
 use std::test::Fail;
@@ -113,24 +152,46 @@ use ucl_words::WordBoard;
 @pytest.mark.quick
 def test_doc_comments():
     """Each public call of a board has one example of 3 to 10 lines, which calls it, and there are no other blocks but at the heads of crates."""
-    assert [call for call, blocks in CALLS if len(blocks) != 1 or not re.search(rf"\b{call}\(", blocks[0])] == []
+    assert [
+        call
+        for call, blocks in CALLS
+        if len(blocks) != 1 or not re.search(rf"\b{call}\(", blocks[0])
+    ] == []
     assert [call for call, (block,) in CALLS if not 3 <= block.count("\n") <= 10] == []
     files = [path for crate in BOARD_CRATES for path in (TOP / "crates" / crate).glob("src/*.rt")]
-    assert sum(len(BLOCK.findall(re.sub(r"^//!.*\n", "", text_of(path), flags=re.M))) for path in files) == len(CALLS) > 0
+    assert (
+        sum(
+            len(BLOCK.findall(re.sub(r"^//!.*\n", "", text_of(path), flags=re.M))) for path in files
+        )
+        == len(CALLS)
+        > 0
+    )
 
 
 @pytest.mark.limit(300)
 def test_examples_of_doc_comments(tmp_path):
     """They are tried as the tests of a crate of their own, unproved."""
     needs("rt")
-    crates = {line.split()[0].strip(":"): line for line in text_of(TOP / "crates.txt").splitlines(True)}
+    crates = {
+        line.split()[0].strip(":"): line for line in text_of(TOP / "crates.txt").splitlines(True)
+    }
     below = ["ucl_word", "ucl_board", "ucl_steps", *BOARD_CRATES]
     for crate in below:
-        shutil.copytree(TOP / "crates" / crate, tmp_path / "crates" / crate, ignore=shutil.ignore_patterns("out", "must-fail"))
+        shutil.copytree(
+            TOP / "crates" / crate,
+            tmp_path / "crates" / crate,
+            ignore=shutil.ignore_patterns("out", "must-fail"),
+        )
     shutil.copy(TOP / "HANDLES", tmp_path)
-    (tmp_path / "crates.txt").write_text("".join(crates[crate] for crate in below) + "tried tests_may=Threads+Wait: ucl_word ucl_pass ucl_words\n")
+    (tmp_path / "crates.txt").write_text(
+        "".join(crates[crate] for crate in below)
+        + "tried tests_may=Threads+Wait: ucl_word ucl_pass ucl_words\n"
+    )
     (tmp_path / "crates/tried/src").mkdir(parents=True)
-    tests = [f"\n#[test]\nfn example_{number}(rt: HostRuntime) -> Result<(), Fail> {{\n{block}Ok(())\n}}\n" for number, (_, (block,)) in enumerate(CALLS)]
+    tests = [
+        f"\n#[test]\nfn example_{number}(rt: HostRuntime) -> Result<(), Fail> {{\n{block}Ok(())\n}}\n"
+        for number, (_, (block,)) in enumerate(CALLS)
+    ]
     (tmp_path / "crates/tried/src/lib.rt").write_text(HEAD + "".join(tests))
     ran = command(["rt", "try", "--test"], cwd=tmp_path / "crates/tried")
     assert ran.status == 0 and f"ok. {len(CALLS)} passed" in ran.output, ran

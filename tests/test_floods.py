@@ -41,7 +41,12 @@ class Honest(threading.Thread):
     def run(self):
         while not self.is_over.wait(0.25):
             begun, number = time.monotonic(), len(self.took) + 1
-            assert self.phone.answer(self.match, number, "goal-home" if number % 2 else "disallow-home") == "entered"
+            assert (
+                self.phone.answer(
+                    self.match, number, "goal-home" if number % 2 else "disallow-home"
+                )
+                == "entered"
+            )
             self.took.append(time.monotonic() - begun)
 
 
@@ -55,7 +60,9 @@ def most_memory(hall):
 def flooded(hall, flood, *words, told, **how):
     """Has a process of its own send a flood, and two phones tap meanwhile. Afterwards all is as it has to be."""
     phones = [Honest(hall.phone(number, **how), number) for number in (1, 2)]
-    process = multiprocessing.get_context("fork").Process(target=sent, args=(flood, hall.port, *words), daemon=True)
+    process = multiprocessing.get_context("fork").Process(
+        target=sent, args=(flood, hall.port, *words), daemon=True
+    )
     process.start()
     begun = time.monotonic()
     try:
@@ -70,10 +77,16 @@ def flooded(hall, flood, *words, told, **how):
             phone.join(10)
     took = sorted(it for phone in phones for it in phone.took)
     memory = most_memory(hall)
-    print(f"{flood.__name__}: {len(took)} taps, median {took[len(took) // 2]:.3f} s, the longest {took[-1]:.3f} s, {memory >> 20} MB")
+    print(
+        f"{flood.__name__}: {len(took)} taps, median {took[len(took) // 2]:.3f} s, the longest {took[-1]:.3f} s, {memory >> 20} MB"
+    )
     # Where others share each core, a tap takes as much longer, and so does all that it waits for.
     patience = max(1, os.getloadavg()[0] / os.cpu_count()) ** 2
-    assert len(took) >= SECONDS and took[9 * len(took) // 10] < WITHIN * patience and took[-1] < LONG * patience
+    assert (
+        len(took) >= SECONDS
+        and took[9 * len(took) // 10] < WITHIN * patience
+        and took[-1] < LONG * patience
+    )
     assert memory < MOST_MEMORY
     status, _, errors = hall.end(signal.SIGTERM)
     print(errors)
@@ -110,17 +123,28 @@ def frames(port, path, frame):
         one.socket.sendall(frame * 5_000)
 
 
-@pytest.mark.parametrize("frame", [b"\x89\x80\1\2\3\4", b"\x8a\x80\1\2\3\4", b"\x01\x80\1\2\3\4"], ids=["pings", "pongs", "empty parts"])
+@pytest.mark.parametrize(
+    "frame",
+    [b"\x89\x80\1\2\3\4", b"\x8a\x80\1\2\3\4", b"\x01\x80\1\2\3\4"],
+    ids=["pings", "pongs", "empty parts"],
+)
 def test_frames_of_a_screen(hall, frame):
     one = hall(*HONEST)
-    with flooded(one, frames, "/lines", frame, told=r"cut off \d+ connections, all of 127\.0\.0\.2"):
+    with flooded(
+        one, frames, "/lines", frame, told=r"cut off \d+ connections, all of 127\.0\.0\.2"
+    ):
         pass
 
 
 def test_pings_of_a_stolen_link(hall):
     """All phones of the link together may send what one may."""
     one = hall(*HONEST)
-    with flooded(one, several_ping, f"/report/{one.key(9)}/taps", told=r"reporter 9 has \d phones(; cut off \d+ connections, all of 127\.0\.0\.2)?"):
+    with flooded(
+        one,
+        several_ping,
+        f"/report/{one.key(9)}/taps",
+        told=r"reporter 9 has \d phones(; cut off \d+ connections, all of 127\.0\.0\.2)?",
+    ):
         time.sleep(SECONDS - 1)
         assert one.health()["cut_off"] > 0
 
@@ -143,7 +167,11 @@ def read_slowly(port):
     with contextlib.ExitStack() as stack:
         for at in range(2_400):
             ones.append(stack.enter_context(connected(port, room=2_048)))
-            request = b"GET /replay.jsonl HTTP/1.1\r\nHost: 127.0.0.1\r\n\r\n" if at % 2 else b"POST / HTTP/1.1\r\nHost: 127.0.0.1\r\nContent-Length: 1000000000\r\n\r\n"
+            request = (
+                b"GET /replay.jsonl HTTP/1.1\r\nHost: 127.0.0.1\r\n\r\n"
+                if at % 2
+                else b"POST / HTTP/1.1\r\nHost: 127.0.0.1\r\nContent-Length: 1000000000\r\n\r\n"
+            )
             with contextlib.suppress(OSError):
                 ones[-1].sendall(request)
             if at % 400 == 0:
@@ -164,11 +192,19 @@ def test_slow_readers_and_bodies_that_do_not_come(hall):
     with flooded(one, read_slowly, told=r"cut off \d+ connections, all of 127\.0\.0\.2"):
         time.sleep(2)
         begun = time.monotonic()
-        assert one.phone(2).until("pulse") and one.screen().status == 101 and one.health()["cut_off"] > 100
+        assert (
+            one.phone(2).until("pulse")
+            and one.screen().status == 101
+            and one.health()["cut_off"] > 100
+        )
         assert time.monotonic() - begun < 2
 
 
-@pytest.mark.parametrize("asked", [b"GET /replay.jsonl HTTP/1.1\r\n", b"POST / HTTP/1.1\r\nContent-Length: 1000000000\r\n"], ids=["reads slowly", "owes a body"])
+@pytest.mark.parametrize(
+    "asked",
+    [b"GET /replay.jsonl HTTP/1.1\r\n", b"POST / HTTP/1.1\r\nContent-Length: 1000000000\r\n"],
+    ids=["reads slowly", "owes a body"],
+)
 def test_who_is_slow_is_gone_in_ten_seconds(hall, asked):
     """A POST has its answer at once."""
     one = hall()
@@ -216,10 +252,23 @@ def context():
 
 def renew_keys(port):
     """A screen over encryption that asks for new keys for ever: openssl does so at each line with a K."""
-    lines = ["GET /lines HTTP/1.1", f"Host: 127.0.0.1:{port}", "Upgrade: websocket", "Connection: Upgrade", "Sec-WebSocket-Version: 13"]
-    lines += ["Sec-WebSocket-Key: dGhlIHNhbXBsZSBub25jZQ==", f"Origin: https://127.0.0.1:{port}", "", ""]
+    lines = [
+        "GET /lines HTTP/1.1",
+        f"Host: 127.0.0.1:{port}",
+        "Upgrade: websocket",
+        "Connection: Upgrade",
+        "Sec-WebSocket-Version: 13",
+    ]
+    lines += [
+        "Sec-WebSocket-Key: dGhlIHNhbXBsZSBub25jZQ==",
+        f"Origin: https://127.0.0.1:{port}",
+        "",
+        "",
+    ]
     words = ["openssl", "s_client", "-connect", f"127.0.0.1:{port}", "-bind", STRANGER]
-    with subprocess.Popen(words, stdin=subprocess.PIPE, stdout=subprocess.DEVNULL, stderr=subprocess.DEVNULL) as client:
+    with subprocess.Popen(
+        words, stdin=subprocess.PIPE, stdout=subprocess.DEVNULL, stderr=subprocess.DEVNULL
+    ) as client:
         client.stdin.write("\r\n".join(lines).encode())
         client.stdin.flush()
         time.sleep(0.5)
@@ -231,7 +280,9 @@ def renew_keys(port):
 def test_keys_that_are_renewed_for_ever(hall, certificate, context):
     """Not all that comes over an encryption is of a message."""
     one = hall(*HONEST, *certificate)
-    with flooded(one, renew_keys, context=context, told=r"cut off \d+ connections, all of 127\.0\.0\.2"):
+    with flooded(
+        one, renew_keys, context=context, told=r"cut off \d+ connections, all of 127\.0\.0\.2"
+    ):
         pass
 
 
@@ -270,13 +321,22 @@ def ask_from_everywhere(port, request):
             stack.enter_context(connected(port, f"127.0.1.{at % 100 + 1}", 2_048)).sendall(request)
 
 
-@pytest.mark.parametrize("asked", [b"GET /replay.jsonl HTTP/1.1\r\nHost: 127.0.0.1\r\n\r\n", b"GET /health HTTP/1.1\r\n"], ids=["whole", "half"])
+@pytest.mark.parametrize(
+    "asked",
+    [b"GET /replay.jsonl HTTP/1.1\r\nHost: 127.0.0.1\r\n\r\n", b"GET /health HTTP/1.1\r\n"],
+    ids=["whole", "half"],
+)
 def test_requests_from_a_hundred_addresses(hall, asked):
     one = hall(*HONEST)
-    with flooded(one, ask_from_everywhere, asked, told=r"cut off \d+ connections, most of 127\.0\.1\.\d+"):
+    with flooded(
+        one, ask_from_everywhere, asked, told=r"cut off \d+ connections, most of 127\.0\.1\.\d+"
+    ):
         time.sleep(1)
         begun = time.monotonic()
-        assert one.get("/health", source=OTHER)[0] == 200 and Socket(one.port, "/lines", source=OTHER).status == 101
+        assert (
+            one.get("/health", source=OTHER)[0] == 200
+            and Socket(one.port, "/lines", source=OTHER).status == 101
+        )
         assert time.monotonic() - begun < 4
 
 
@@ -289,7 +349,17 @@ def tap_much(port, path):
     while True:
         for at, phone in enumerate(phones):
             with contextlib.suppress(OSError):
-                phone.send(json.dumps({"tap": f"{at:032x}", "edition": 0, "match": 9, "expected": 7, "event": "goal-home"}))
+                phone.send(
+                    json.dumps(
+                        {
+                            "tap": f"{at:032x}",
+                            "edition": 0,
+                            "match": 9,
+                            "expected": 7,
+                            "event": "goal-home",
+                        }
+                    )
+                )
         time.sleep(1 / 18)
         if all(not phone.socket.fileno() for phone in phones):
             return
@@ -298,7 +368,12 @@ def tap_much(port, path):
 def test_two_hundred_phones_of_one_link(hall):
     """Eight have a place, of which the oldest gives way."""
     one = hall(*HONEST)
-    with flooded(one, tap_much, f"/report/{one.key(9)}/taps", told=r"reporter 9 has \d phones(; cut off \d+ connections, all of 127\.0\.0\.2)?"):
+    with flooded(
+        one,
+        tap_much,
+        f"/report/{one.key(9)}/taps",
+        told=r"reporter 9 has \d phones(; cut off \d+ connections, all of 127\.0\.0\.2)?",
+    ):
         time.sleep(SECONDS - 1)
         assert one.health()["groups"]["A"]["phones"]["9"] <= 8
     assert len([row for row in one.rows() if row.startswith("9,")]) <= 20 * (SECONDS + 3)

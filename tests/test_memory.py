@@ -23,7 +23,19 @@ def refuses(tmp_path_factory):
     """The library that refuses requests."""
     conftest.needs("cc")
     path = tmp_path_factory.mktemp("refuses") / "refuse_nth.so"
-    ended = conftest.command(["cc", "-shared", "-fPIC", "-O1", "-Wall", "-Werror", "-o", path, TOP / "tests/refuse_nth.c"])
+    ended = conftest.command(
+        [
+            "cc",
+            "-shared",
+            "-fPIC",
+            "-O1",
+            "-Wall",
+            "-Werror",
+            "-o",
+            path,
+            TOP / "tests/refuse_nth.c",
+        ]
+    )
     assert ended.status == 0, ended.errors
     return path
 
@@ -31,7 +43,14 @@ def refuses(tmp_path_factory):
 def refused(refuses, nth, mode, start, words, text):
     """A run whose request with this number is refused, and what was told of refusals."""
     reading, writing = os.pipe()
-    environment = {**os.environ, "LD_PRELOAD": refuses, "REFUSE_NTH": str(nth), "REFUSE_MODE": mode, "REFUSE_FROM": start, "REFUSE_TELLS": str(writing)}
+    environment = {
+        **os.environ,
+        "LD_PRELOAD": refuses,
+        "REFUSE_NTH": str(nth),
+        "REFUSE_MODE": mode,
+        "REFUSE_FROM": start,
+        "REFUSE_TELLS": str(writing),
+    }
     run = conftest.command(words, text, env=environment, pass_fds=[writing])
     os.close(writing)
     with open(reading) as told:
@@ -67,7 +86,12 @@ CALLS = {
     "night_run": (f"{H2H}.csv", (SCREEN,), [NO_MEMORY, NO_THREAD]),
     "night_run_in_a_cell": (f"{H2H}.csv", (SCREEN,), [NO_MEMORY, NO_THREAD]),
     # Strangers are told after want of memory for a reader and of a thread, and before want of memory for the closing screen.
-    "night_run_beside_a_stranger": (f"{H2H}.csv", (SCREEN,), [NO_MEMORY, NO_THREAD], "Some(Strangers { version: 40 })"),
+    "night_run_beside_a_stranger": (
+        f"{H2H}.csv",
+        (SCREEN,),
+        [NO_MEMORY, NO_THREAD],
+        "Some(Strangers { version: 40 })",
+    ),
 }
 
 
@@ -75,26 +99,46 @@ CALLS = {
 @pytest.mark.parametrize("call", CALLS)
 def test_a_call_of_the_library(program, refuses, call, mode):
     name, gives, answers, *first = CALLS[call]
-    text = text_of(name) if name is not None else "ucl_night night --group C --readings 3 --order away-in-tie"
+    text = (
+        text_of(name)
+        if name is not None
+        else "ucl_night night --group C --readings 3 --order away-in-tie"
+    )
     met, whole = swept(refuses, mode, "call", [program("ucl_hostile"), "refused", call], text)
     right = "kept true\n" + text_of(*gives)
     assert whole.output == f"first {(*first, None)[0]}\n" + right
     allowed = [f"first {answer}\n{right}" for answer in answers]
-    assert [run for run, asks_again in met if run.output not in allowed + [whole.output] * asks_again] == []
+    assert [
+        run for run, asks_again in met if run.output not in allowed + [whole.output] * asks_again
+    ] == []
     assert any(run.output in allowed for run, _ in met)
 
 
 def test_a_night_with_a_row_that_is_off_duty_asks_for_nothing(program, refuses):
-    met, whole = swept(refuses, "all", "call", [program("ucl_hostile"), "refused", "night_run"], text_of(f"{H2H}.csv", "3,1,0,kickoff\n"))
+    met, whole = swept(
+        refuses,
+        "all",
+        "call",
+        [program("ucl_hostile"), "refused", "night_run"],
+        text_of(f"{H2H}.csv", "3,1,0,kickoff\n"),
+    )
     assert met == [] and "input refused 25: row 45" in whole.errors
 
 
 def test_a_night_on_a_full_board_asks_for_nothing(program, refuses):
-    met, whole = swept(refuses, "all", "call", [program("ucl_hostile"), "refused", "night_run_on_a_full_board"], text_of(f"{H2H}.csv"))
+    met, whole = swept(
+        refuses,
+        "all",
+        "call",
+        [program("ucl_hostile"), "refused", "night_run_on_a_full_board"],
+        text_of(f"{H2H}.csv"),
+    )
     assert met == [] and whole.output == "first Some(TooManyReporters)\nkept true\n"
 
 
-@pytest.mark.parametrize("call", ["night_run", "night_run_in_a_cell", "night_run_beside_a_stranger"])
+@pytest.mark.parametrize(
+    "call", ["night_run", "night_run_in_a_cell", "night_run_beside_a_stranger"]
+)
 def test_a_thread_that_did_not_start_is_told_before_a_screen_without_memory(program, refuses, call):
     words, text = [program("ucl_hostile"), "refused", call], text_of(f"{H2H}.csv")
     alone, whole = swept(refuses, "main", "call", words, text)
@@ -109,14 +153,28 @@ def test_a_thread_that_did_not_start_is_told_before_a_screen_without_memory(prog
 
 def test_a_night_of_the_program_tells_which_of_both_it_lacks(program, refuses):
     """Of the requests of its first thread the last one is for the closing screen, and some before are for threads."""
-    alone, _ = swept(refuses, "main", "start", [program("ucl_night"), "night", "--readings", "3"], text_of(f"{H2H}.csv"))
+    alone, _ = swept(
+        refuses,
+        "main",
+        "start",
+        [program("ucl_night"), "night", "--readings", "3"],
+        text_of(f"{H2H}.csv"),
+    )
     faults = [run.errors for run, _ in alone]
     assert faults.count("no thread 27\n") >= 4 and faults[-1] == "out of memory 23\n"
 
 
 ROWS = "two_matches.csv", "screen,,,\nwords,,,\nmatches,,,\n"
-BAD_ROWS = "one_goal.csv", "1,1\n\n1,1,0,kickoff,\n\r1,1,0,kickoff\r\r\n1,2,0,kickoff\r3,4\n,\n" + "x" * 300 + '\n"1",1,"0","kickoff"\n1,1,2,goal-away'
-MORE_ROWS = "one_goal.csv", "group,A,uefa,1\nclub,1,Echo,7\n1,1,0,kickoff\nscreen,,,\n1,1,0,kickoff\n"
+BAD_ROWS = (
+    "one_goal.csv",
+    "1,1\n\n1,1,0,kickoff,\n\r1,1,0,kickoff\r\r\n1,2,0,kickoff\r3,4\n,\n"
+    + "x" * 300
+    + '\n"1",1,"0","kickoff"\n1,1,2,goal-away',
+)
+MORE_ROWS = (
+    "one_goal.csv",
+    "group,A,uefa,1\nclub,1,Echo,7\n1,1,0,kickoff\nscreen,,,\n1,1,0,kickoff\n",
+)
 # Each run of a program with its input and its status, and how many lines of its output may be out where want of memory is told: in an evening the
 # clubs ask for memory, the screen, the words, the matches, a screen after an accepted event, and all in JSON. Other lines ask for none, also in quotes; a follower asks at each.
 RUNS = {
@@ -145,9 +203,17 @@ RUNS = {
 @pytest.mark.parametrize("line", RUNS)
 def test_a_run_of_a_program(program, refuses, line, mode):
     (name, *words), (given, status, places) = line.split(), RUNS[line]
-    met, whole = swept(refuses, mode, "start", [program(name), *words], text_of(*given) if given else "")
-    assert whole.status == status and not (whole.output if status else whole.errors.replace("8 lines, 2 shown, 6 passed over\n", ""))
+    met, whole = swept(
+        refuses, mode, "start", [program(name), *words], text_of(*given) if given else ""
+    )
+    assert whole.status == status and not (
+        whole.output if status else whole.errors.replace("8 lines, 2 shown, 6 passed over\n", "")
+    )
     told = ["out of memory 23\n"] + ["no thread 27\n"] * ("night" in words)
-    allowed = [(5, "".join(whole.output.splitlines(True)[:place]), fault) for place in places for fault in told]
+    allowed = [
+        (5, "".join(whole.output.splitlines(True)[:place]), fault)
+        for place in places
+        for fault in told
+    ]
     assert [run for run, asks_again in met if run not in allowed + [whole] * asks_again] == []
     assert any(run in allowed for run, _ in met)

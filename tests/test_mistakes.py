@@ -9,15 +9,38 @@ from model import CLUBS, entered, parsed, screen
 # By the mistake what was typed, and what was meant: matches and events.
 MEANT = {
     "a goal that was none": ("1 kickoff, 1 goal-home", "1 kickoff"),
-    "a goal for the wrong side: home for away": ("1 kickoff, 1 goal-home", "1 kickoff, 1 goal-away"),
-    "a goal for the wrong match": ("1 kickoff, 2 kickoff, 1 goal-home", "1 kickoff, 2 kickoff, 2 goal-home"),
-    "a goal that was disallowed, and counts": ("1 kickoff, 1 goal-home, 1 disallow-home", "1 kickoff, 1 goal-home"),
-    "full time, and the match goes on": ("1 kickoff, 1 goal-away, 1 fulltime", "1 kickoff, 1 goal-away"),
-    "a reopening, and the match was over": ("1 kickoff, 1 fulltime, 1 reopen", "1 kickoff, 1 fulltime"),
-    "a goal that was none in a match that is over": ("1 kickoff, 1 goal-home, 1 fulltime", "1 kickoff, 1 fulltime"),
-    "a goal that was forgotten in a match that is over": ("1 kickoff, 1 fulltime", "1 kickoff, 1 goal-away, 1 fulltime"),
+    "a goal for the wrong side: home for away": (
+        "1 kickoff, 1 goal-home",
+        "1 kickoff, 1 goal-away",
+    ),
+    "a goal for the wrong match": (
+        "1 kickoff, 2 kickoff, 1 goal-home",
+        "1 kickoff, 2 kickoff, 2 goal-home",
+    ),
+    "a goal that was disallowed, and counts": (
+        "1 kickoff, 1 goal-home, 1 disallow-home",
+        "1 kickoff, 1 goal-home",
+    ),
+    "full time, and the match goes on": (
+        "1 kickoff, 1 goal-away, 1 fulltime",
+        "1 kickoff, 1 goal-away",
+    ),
+    "a reopening, and the match was over": (
+        "1 kickoff, 1 fulltime, 1 reopen",
+        "1 kickoff, 1 fulltime",
+    ),
+    "a goal that was none in a match that is over": (
+        "1 kickoff, 1 goal-home, 1 fulltime",
+        "1 kickoff, 1 fulltime",
+    ),
+    "a goal that was forgotten in a match that is over": (
+        "1 kickoff, 1 fulltime",
+        "1 kickoff, 1 goal-away, 1 fulltime",
+    ),
 }
-PAIRS = re.findall(r"^\| (.+?) \| ((?:`\d+ [a-z ]+` ?)+) \|$", text_of(TOP / "docs/OPERATE.md"), re.M)
+PAIRS = re.findall(
+    r"^\| (.+?) \| ((?:`\d+ [a-z ]+` ?)+) \|$", text_of(TOP / "docs/OPERATE.md"), re.M
+)
 TYPED = {mistake: re.findall(r"`(\d+) (.+?)`", typed) for mistake, typed in PAIRS}
 
 
@@ -33,9 +56,15 @@ def numbered(events):
 def taken_back(mistake):
     """The case of a mistake that events take back: their answers, and but for its version the table of what was meant."""
     typed, meant = ([event.split(" ") for event in events.split(", ")] for events in MEANT[mistake])
-    text = numbered(typed + [(game, "-".join(event.split())) for game, event in TYPED.get(mistake, [])])
+    text = numbered(
+        typed + [(game, "-".join(event.split())) for game, event in TYPED.get(mistake, [])]
+    )
     (_, told), table = entered(parsed(text)[1]), screen(entered(parsed(numbered(meant))[1])[0])
-    return "ucl_live", text + "screen,,,\n", told + re.sub("v[0-9]{5}", f"v{text.count(chr(10)) - 4:05d}", table)
+    return (
+        "ucl_live",
+        text + "screen,,,\n",
+        told + re.sub("v[0-9]{5}", f"v{text.count(chr(10)) - 4:05d}", table),
+    )
 
 
 test_what_an_event_takes_back = tabled({mistake: taken_back(mistake) for mistake in MEANT})

@@ -25,17 +25,55 @@ PAGE = conftest.TOP / "ucl_hall/web/pages/index.html"
 SILENCE = 4
 LARGE = (1920, 1080)
 # How large names, figures and scores of the season are at least at each size: of one group, and on the wall.
-SIZES = {(1280, 720): (36, 16), (1366, 768): (39, 17), LARGE: (54, 24), (3840, 2160): (108, 48), (1024, 768): (29, 14), (390, 844): (20, 9.5)}
+SIZES = {
+    (1280, 720): (36, 16),
+    (1366, 768): (39, 17),
+    LARGE: (54, 24),
+    (3840, 2160): (108, 48),
+    (1024, 768): (29, 14),
+    (390, 844): (20, 9.5),
+}
 FONTS = ["DejaVu Sans", "Noto Sans"]
 STATES = {model.IN_PLAY: "In play", model.FINISHED: "Full time"}
 FIGURES = ["played", "won", "drawn", "lost", "goals_for", "goals_against"]
-HEADS = ["Place", "Certain", "Plays now", "Club", "Played", "Won", "Drawn", "Lost", "Goals for", "Goals against", "Goal difference", "Points"]
+HEADS = [
+    "Place",
+    "Certain",
+    "Plays now",
+    "Club",
+    "Played",
+    "Won",
+    "Drawn",
+    "Lost",
+    "Goals for",
+    "Goals against",
+    "Goal difference",
+    "Points",
+]
 MEANINGS = {"+": "certain to be first or second", "-": "certain not to be first or second", "": ""}
 LEGEND = "+ certain to be first or second, \u2212 certain not to be, by points alone"
 # Ten matches that are finished: the first and the last club are certain then, and two are level.
 HALL = '{"reply":"hall","title":"%s","groups":"%s","tonight":%s}'
-FINISHED = {1: (2, 0), 2: (1, 1), 3: (1, 2), 4: (0, 3), 5: (0, 2), 6: (4, 0), 7: (3, 0), 8: (0, 1), 9: (1, 1), 10: (1, 2)}
-WORDS = ["--headless=new", "--no-sandbox", "--disable-gpu", "--disable-dev-shm-usage", "--hide-scrollbars", "--window-size=1920,1080"]
+FINISHED = {
+    1: (2, 0),
+    2: (1, 1),
+    3: (1, 2),
+    4: (0, 3),
+    5: (0, 2),
+    6: (4, 0),
+    7: (3, 0),
+    8: (0, 1),
+    9: (1, 1),
+    10: (1, 2),
+}
+WORDS = [
+    "--headless=new",
+    "--no-sandbox",
+    "--disable-gpu",
+    "--disable-dev-shm-usage",
+    "--hide-scrollbars",
+    "--window-size=1920,1080",
+]
 # By the letter of each group what the page shows of it; the signs of a cell are those that are seen, and that are heard.
 SHOWN = """window.shown = () => {
   const text = (element) => element.textContent.trim();
@@ -133,18 +171,44 @@ NOTED = """window.noted = []; new MutationObserver(() => noted.push(document.que
 
 def shown_of(matches, roster, games, edition=0):
     """What the page shows of these matches, where these are the matches of the evening, by their numbers."""
-    playing = {roster[slot - 1][0] for slots, match in zip(model.FIXTURES, matches) if match.state == model.IN_PLAY for slot in slots}
+    playing = {
+        roster[slot - 1][0]
+        for slots, match in zip(model.FIXTURES, matches)
+        if match.state == model.IN_PLAY
+        for slot in slots
+    }
     rows, lines = [], []
     for place in model.places(matches, roster, False):
-        row = [place["place"], [place["mark"], MEANINGS[place["mark"]]], ["dot", "plays now"] if place["club"] in playing else ["", ""], place["club"]]
-        row += [place[name] for name in FIGURES] + [f"{place['goal_difference']:+}" if place["goal_difference"] else "0", place["points"]]
-        rows.append([[it.replace("-", "\u2212") for it in cell] if isinstance(cell, list) else str(cell) for cell in row])
+        row = [
+            place["place"],
+            [place["mark"], MEANINGS[place["mark"]]],
+            ["dot", "plays now"] if place["club"] in playing else ["", ""],
+            place["club"],
+        ]
+        row += [place[name] for name in FIGURES] + [
+            f"{place['goal_difference']:+}" if place["goal_difference"] else "0",
+            place["points"],
+        ]
+        rows.append(
+            [
+                [it.replace("-", "\u2212") for it in cell] if isinstance(cell, list) else str(cell)
+                for cell in row
+            ]
+        )
         rows[-1][3], rows[-1][10] = place["club"], rows[-1][10].replace("-", "\u2212")
     for game in games:
-        match, (home, away) = matches[game - 1], (roster[slot - 1][0] for slot in model.FIXTURES[game - 1])
+        match, (home, away) = matches[game - 1], (
+            roster[slot - 1][0] for slot in model.FIXTURES[game - 1]
+        )
         lines.append(f"{STATES[match.state]}|{home}|{match.goals[0]}\u2013{match.goals[1]}|{away}")
     version = f"edition {edition}, " * bool(edition) + f"version {model.version(matches)}"
-    return {"rows": rows, "heads": HEADS, "matches": lines or ["No match is in play"], "version": version, "signal": ""}
+    return {
+        "rows": rows,
+        "heads": HEADS,
+        "matches": lines or ["No match is in play"],
+        "version": version,
+        "signal": "",
+    }
 
 
 class BoardState(NamedTuple):
@@ -167,7 +231,11 @@ class BoardState(NamedTuple):
 
     def of(self, group=None, edition=0, clubs=()):
         """The same in another group, in another edition, or of other clubs."""
-        return self._replace(group=group or self.group, edition=edition, roster=[(name, 0) for name in clubs] or self.roster)
+        return self._replace(
+            group=group or self.group,
+            edition=edition,
+            roster=[(name, 0) for name in clubs] or self.roster,
+        )
 
 
 def season(group, year="2021-22"):
@@ -182,7 +250,14 @@ def season(group, year="2021-22"):
         for over in [[], games[:1], games[1:]] if len(games) == 2 else []:
             for number in over:
                 matches[number - 1].enter(2 - number % 2, "fulltime")
-            moments.append(BoardState(group, [model.match_of(match.word()) for match in matches], roster, sorted(games)))
+            moments.append(
+                BoardState(
+                    group,
+                    [model.match_of(match.word()) for match in matches],
+                    roster,
+                    sorted(games),
+                )
+            )
         games = games if len(games) < 2 else []
     assert len(moments) == 18 and {match.state for match in matches} == {model.FINISHED}
     return moments
@@ -197,14 +272,19 @@ SEASON = {group: season(group) for group in "ABCDEFGH"}
 @pytest.fixture(scope="module")
 def browser(tmp_path_factory):
     """A browser, which is one for all tests."""
-    webdriver = pytest.importorskip("selenium.webdriver", reason="no selenium: python3-selenium has it")
+    webdriver = pytest.importorskip(
+        "selenium.webdriver", reason="no selenium: python3-selenium has it"
+    )
     conftest.needs("chromium", "chromedriver")
     options, folder = webdriver.ChromeOptions(), tmp_path_factory.mktemp("browser")
     for word in [*WORDS, f"--user-data-dir={folder}/kept"]:
         options.add_argument(word)
     with pytest.MonkeyPatch.context() as patch:
         patch.setenv("HOME", str(folder))
-        browser = webdriver.Chrome(service=webdriver.chrome.service.Service(conftest.shutil.which("chromedriver")), options=options)
+        browser = webdriver.Chrome(
+            service=webdriver.chrome.service.Service(conftest.shutil.which("chromedriver")),
+            options=options,
+        )
     yield browser
     browser.quit()
 
@@ -225,17 +305,26 @@ class Sheet:
     def reload(self):
         """Opens the page again, without a WebSocket, with a clock that tests can put ahead, and one that somebody has set back."""
         self.browser.refresh()
-        self.run(f"open = () => {{}}; window.ahead = 0; const now = performance.now.bind(performance); performance.now = () => now() + 1000 * ahead; Date.now = () => 0; {SHOWN} {INKS} {LOOK}")
+        self.run(
+            f"open = () => {{}}; window.ahead = 0; const now = performance.now.bind(performance); performance.now = () => now() + 1000 * ahead; Date.now = () => 0; {SHOWN} {INKS} {LOOK}"
+        )
 
     def resize(self, size):
         """Makes the window as large as this."""
-        self.browser.execute_cdp_cmd("Emulation.setDeviceMetricsOverride", dict(zip(["width", "height"], size), deviceScaleFactor=1, mobile=False))
+        self.browser.execute_cdp_cmd(
+            "Emulation.setDeviceMetricsOverride",
+            dict(zip(["width", "height"], size), deviceScaleFactor=1, mobile=False),
+        )
         assert until(lambda: self.run("return [innerWidth, innerHeight]") == [*size], 10)
 
     def fonts(self):
         """Of the fonts those that are installed; where none is, it skips the test."""
         width = "const pen = document.createElement('canvas').getContext('2d'); pen.font = arguments[0]; return pen.measureText('Wing').width"
-        found = [font for font in FONTS if self.run(width, f"20px '{font}', monospace") != self.run(width, "20px monospace")]
+        found = [
+            font
+            for font in FONTS
+            if self.run(width, f"20px '{font}', monospace") != self.run(width, "20px monospace")
+        ]
         return found or pytest.skip("not installed: fonts-dejavu-core")
 
     def looks(self):
@@ -263,7 +352,9 @@ def sheet(browser):
 def check(sheet, rounds, name, least=0):
     """After each round of lines the page shows these moments, nothing is wrong with how it looks, columns are those of all other tables, letters are large."""
     columns = set()
-    for moments, it in zip(rounds, sheet.rounds([[moment.line() for moment in moments] for moments in rounds])):
+    for moments, it in zip(
+        rounds, sheet.rounds([[moment.line() for moment in moments] for moments in rounds])
+    ):
         assert it["faults"] == [], f"{name}, matches {moments[0].games} of {moments[0].roster}"
         assert it["shown"] == {moment.group: moment.shown() for moment in moments}, name
         assert it["letters"][0] >= least, name
@@ -279,7 +370,11 @@ def test_a_group_at_each_size_on_each_matchday(sheet):
     """All groups are shown in the place of one, each in an edition of its own."""
     sheet.open("group=A")
     for number, size, name in sheet.looks():
-        rounds = [[it.of("A", 8 * number + at)] for at, moments in enumerate(SEASON.values()) for it in moments[:: 3 if number else 1]]
+        rounds = [
+            [it.of("A", 8 * number + at)]
+            for at, moments in enumerate(SEASON.values())
+            for it in moments[:: 3 if number else 1]
+        ]
         check(sheet, rounds, name, SIZES[size][0])
 
 
@@ -287,14 +382,26 @@ def test_a_group_at_each_size_on_each_matchday(sheet):
 def test_the_wall_at_each_size_on_each_matchday(sheet):
     sheet.open("wall")
     for number, size, name in sheet.looks():
-        check(sheet, [[it.of(edition=number) for it in moments] for moments in [*zip(*SEASON.values())][:: 3 if number else 1]], name, SIZES[size][1])
+        check(
+            sheet,
+            [
+                [it.of(edition=number) for it in moments]
+                for moments in [*zip(*SEASON.values())][:: 3 if number else 1]
+            ],
+            name,
+            SIZES[size][1],
+        )
 
 
 def large():
     """A group in which two clubs score all that can be, ten matches are over, and two in play."""
     matches = model.fresh()
     for number, (match, slots) in enumerate(zip(matches, model.FIXTURES), 1):
-        match.number, match.reporter, match.state = 4094, 255, model.IN_PLAY if number > 10 else model.FINISHED
+        match.number, match.reporter, match.state = (
+            4094,
+            255,
+            model.IN_PLAY if number > 10 else model.FINISHED,
+        )
         match.goals = [63 * (slot < 3) for slot in slots]
     return BoardState("A", matches, model.ROSTER, [11, 12])
 
@@ -302,7 +409,12 @@ def large():
 NAMES = {
     "widest": ["W" * 20, "M" * 20, "@" * 20, "%" * 20],
     "one is wide": ["W" * 20, "i", "Alpha", "Bravo"],
-    "twenty letters": ["Borussia Munchenglad", "Wolverhampton Wander", "Shakhtar Donetsk1936", "Paris Saint-Germain1"],
+    "twenty letters": [
+        "Borussia Munchenglad",
+        "Wolverhampton Wander",
+        "Shakhtar Donetsk1936",
+        "Paris Saint-Germain1",
+    ],
     "no HTML": ["<b>A</b>", '"&amp;"', "a   b", "'"],
 }
 
@@ -315,11 +427,16 @@ def test_long_names_large_figures_and_no_signal(sheet, name, words):
     season = [moments[15] for moments in SEASON.values()][: 8 if words == "wall" else 1]
     moments = [moment.of(edition=12345, clubs=NAMES[name]) for moment in [large(), *season[1:]]]
     before, after = sheet.rounds([[it.line() for it in season], [it.line() for it in moments]])
-    assert after["shown"] == {it.group: it.shown() for it in moments} and after["columns"] == before["columns"]
+    assert (
+        after["shown"] == {it.group: it.shown() for it in moments}
+        and after["columns"] == before["columns"]
+    )
     sheet.run("ahead = 8; tell()")
     assert sheet.run("return shown().A.signal").startswith("No signal")
     for *_, font in sheet.looks():
-        faults = lambda: sheet.run("const it = look(); return it.fill < 0.85 ? ['letters are too small'] : it.faults")
+        faults = lambda: sheet.run(
+            "const it = look(); return it.fill < 0.85 ? ['letters are too small'] : it.faults"
+        )
         assert until(lambda: faults() == [], 5) or faults() == [], font
 
 
@@ -347,7 +464,13 @@ def test_letters_for_twenty_metres_and_the_picture(sheet, pytestconfig):
     if pytestconfig.getoption("--picture", None):
         sheet.browser.get(f"{PAGE.as_uri()}?group=A")
         tonight = sorted(moments[0].games)
-        sheet.run("for (const line of arguments[0]) take(line)", [HALL % ("Champions League 2021/22, matchday 6", "A", json.dumps({"A": tonight})), moments[0].line()])
+        sheet.run(
+            "for (const line of arguments[0]) take(line)",
+            [
+                HALL % ("Champions League 2021/22, matchday 6", "A", json.dumps({"A": tonight})),
+                moments[0].line(),
+            ],
+        )
         picture = sheet.browser.execute_cdp_cmd("Page.captureScreenshot", {"format": "png"})["data"]
         pathlib.Path(pytestconfig.getoption("--picture")).write_bytes(base64.b64decode(picture))
 
@@ -358,20 +481,39 @@ def test_letters_for_twenty_metres_and_the_picture(sheet, pytestconfig):
 @pytest.mark.quick
 def test_lines_of_other_groups(sheet):
     a, b = (SEASON[group][0] for group in "AB")
-    for words, lines, moment in [("group=B", [a, b, a], b), ("group=b", [b, a], b), ("", [a, b], a), ("x", [b, a], b)]:
+    for words, lines, moment in [
+        ("group=B", [a, b, a], b),
+        ("group=b", [b, a], b),
+        ("", [a, b], a),
+        ("x", [b, a], b),
+    ]:
         sheet.open(words)
         assert sheet.take(*(it.line() for it in lines)) == {moment.group: moment.shown()}
         assert sheet.run("return document.title") == f"Group {moment.group}"
     sheet.open("wall")
     shown = sheet.take(b.line())
-    assert [*shown] == [*"ABCDEFGH"] and shown["B"] == b.shown() and [it["rows"] for group, it in shown.items() if group != "B"] == [[]] * 7
+    assert (
+        [*shown] == [*"ABCDEFGH"]
+        and shown["B"] == b.shown()
+        and [it["rows"] for group, it in shown.items() if group != "B"] == [[]] * 7
+    )
 
 
 @pytest.mark.quick
 def test_a_newer_screen_is_of_a_later_edition_or_of_the_same_and_a_higher_version(sheet):
     moments = SEASON["A"]
     sheet.open("group=A")
-    steps = [(3, 0, True), (2, 0, False), (4, 0, True), (1, 1, True), (5, 0, False), (0, 1, False), (2, 1, True), (0, 10, True), (5, 9, False)]
+    steps = [
+        (3, 0, True),
+        (2, 0, False),
+        (4, 0, True),
+        (1, 1, True),
+        (5, 0, False),
+        (0, 1, False),
+        (2, 1, True),
+        (0, 10, True),
+        (5, 9, False),
+    ]
     for at, edition, is_newer in steps:
         moment = moments[at].of(edition=edition)
         version = sheet.take(moment.line(at))["A"]["version"]
@@ -386,25 +528,58 @@ def test_a_board_that_is_begun_again_takes_back_a_kick_off_and_brings_its_own_cl
     for game in wrong.games:
         wrong.matches[game - 1].enter(1, "kickoff")
     wrong.matches[1].enter(1, "goal-home")
-    mended = BoardState("A", [model.Match(), *wrong.matches[1:]], [("Atletico", 9), *wrong.roster[1:]], [2], 1)
+    mended = BoardState(
+        "A", [model.Match(), *wrong.matches[1:]], [("Atletico", 9), *wrong.roster[1:]], [2], 1
+    )
     sheet.open("group=A")
-    assert [sheet.take(it.line(row))["A"] for row, it in enumerate([wrong, mended, wrong], 1)] == [it.shown() for it in (wrong, mended, mended)]
+    assert [sheet.take(it.line(row))["A"] for row, it in enumerate([wrong, mended, wrong], 1)] == [
+        it.shown() for it in (wrong, mended, mended)
+    ]
     home, away = (mended.roster[slot - 1][0] for slot in model.FIXTURES[0])
-    assert sheet.run("return document.getElementById('news').textContent") == f"Corrected. To come: {home} 0, {away} 0."
+    assert (
+        sheet.run("return document.getElementById('news').textContent")
+        == f"Corrected. To come: {home} 0, {away} 0."
+    )
 
 
 @pytest.mark.quick
 def test_lines_that_tell_no_screen(sheet):
     moment = SEASON["A"][0]
     said = json.loads(moment.line())
-    changed = [{"group": "I"}, {"group": 1}, {"version": "16"}, {"reply": "ok"}, {"table": [1, 2, 3]}, {"matches": []}]
+    changed = [
+        {"group": "I"},
+        {"group": 1},
+        {"version": "16"},
+        {"reply": "ok"},
+        {"table": [1, 2, 3]},
+        {"matches": []},
+    ]
     changed += [{"edition": it} for it in ("1", 0.5, -1, 65536, None)]
-    changed += [{"clubs": None}, {"table": [None] * 4}, {"matches": ["x"] * 12}, {"clubs": [None] * 4}]
-    changed += [{"matches": [{**said["matches"][0], **it}, *said["matches"][1:]]} for it in ({"home": 5}, {"away": 0}, {"state": "OVER"}, {"score": None})]
+    changed += [
+        {"clubs": None},
+        {"table": [None] * 4},
+        {"matches": ["x"] * 12},
+        {"clubs": [None] * 4},
+    ]
+    changed += [
+        {"matches": [{**said["matches"][0], **it}, *said["matches"][1:]]}
+        for it in ({"home": 5}, {"away": 0}, {"state": "OVER"}, {"score": None})
+    ]
     lines = [json.dumps({**said, "version": 99, "row": at, **it}) for at, it in enumerate(changed)]
     sheet.open("group=A")
     sheet.take(moment.line())
-    assert sheet.take("", "x", "null", "3", "[]", "{}", '{"reply":"screen"}', "[" * 500, moment.line()[:-20], *lines) == {"A": moment.shown()}
+    assert sheet.take(
+        "",
+        "x",
+        "null",
+        "3",
+        "[]",
+        "{}",
+        '{"reply":"screen"}',
+        "[" * 500,
+        moment.line()[:-20],
+        *lines,
+    ) == {"A": moment.shown()}
     assert sheet.take(SEASON["A"][1].line()) == {"A": SEASON["A"][1].shown()}
 
 
@@ -420,13 +595,20 @@ def test_no_signal_where_nothing_comes_or_no_word_of_the_group(sheet):
     for line, told in (b.line(), "No signal"), (pulse("AB"), "No signal"), (a.line(), ""):
         sheet.take(line)
         assert signal() == told
-    for line, told in (pulse("AB"), ""), (pulse("B"), "No signal"), (b.line(), "No signal"), (pulse("A"), ""):
+    for line, told in (
+        (pulse("AB"), ""),
+        (pulse("B"), "No signal"),
+        (b.line(), "No signal"),
+        (pulse("A"), ""),
+    ):
         wait(4)
         sheet.take(line)
         wait(2)
         assert signal() == told
     sheet.open("wall")
-    assert [group for group, it in sheet.take(b.line()).items() if it["signal"] == "No signal"] == [*"ACDEFGH"]
+    assert [group for group, it in sheet.take(b.line()).items() if it["signal"] == "No signal"] == [
+        *"ACDEFGH"
+    ]
 
 
 @pytest.mark.quick
@@ -449,15 +631,29 @@ def test_what_the_server_has(sheet):
     hall = lambda groups, tonight={}: HALL % ("Finals", groups, json.dumps(tonight))
     a, c = SEASON["A"][0], SEASON["C"][0]
     sheet.open("")
-    assert [*sheet.take(hall("A"))] == ["A"] and sheet.run("return document.title") == "Finals: Group A"
-    games = [*a.games, next(game for game in range(1, 13) if a.matches[game - 1].state == model.SCHEDULED)]
+    assert [*sheet.take(hall("A"))] == ["A"] and sheet.run(
+        "return document.title"
+    ) == "Finals: Group A"
+    games = [
+        *a.games,
+        next(game for game in range(1, 13) if a.matches[game - 1].state == model.SCHEDULED),
+    ]
     shown = sheet.take(hall("A", tonight={"A": sorted(games)}), a.line())["A"]["matches"]
     home, away = (a.roster[slot - 1][0] for slot in model.FIXTURES[games[-1] - 1])
     assert sorted(shown) == sorted([*a.shown()["matches"], f"To come|{home}|v|{away}"])
-    assert sheet.run("return [document.getElementById('title').textContent, document.querySelector('.standing').textContent]") == ["Finals", "as it stands"]
-    assert [*sheet.take(hall("ABC"), c.line())] == [*"ABC"] and sheet.run("return document.title") == "Finals: Groups A to C"
+    assert sheet.run(
+        "return [document.getElementById('title').textContent, document.querySelector('.standing').textContent]"
+    ) == ["Finals", "as it stands"]
+    assert [*sheet.take(hall("ABC"), c.line())] == [*"ABC"] and sheet.run(
+        "return document.title"
+    ) == "Finals: Groups A to C"
     for _, size, font in sheet.looks():
-        assert sheet.run("return look().faults.filter((it) => !/a table has 0 rows|lines over|sizes/.test(it))") == [], font
+        assert (
+            sheet.run(
+                "return look().faults.filter((it) => !/a table has 0 rows|lines over|sizes/.test(it))"
+            )
+            == []
+        ), font
     sheet.open("group=C")
     assert sheet.take(hall("ABC"), a.line(), c.line()) == {"C": c.shown()}
     sheet.open("wall")
@@ -471,7 +667,9 @@ def test_no_word_of_ours_on_a_public_screen_and_a_final_table(sheet):
     sheet.browser.get(f"{PAGE.as_uri()}?group=A")
     sheet.run(SHOWN)
     before, last = SEASON["A"][-3], SEASON["A"][-1].of(edition=3)
-    assert sheet.run("take(arguments[0]); take(arguments[1]); return shown()", before.line(), last.line())["A"] == {**last.shown(), "version": ""}
+    assert sheet.run(
+        "take(arguments[0]); take(arguments[1]); return shown()", before.line(), last.line()
+    )["A"] == {**last.shown(), "version": ""}
     assert sheet.run("return document.querySelector('.standing').textContent") == "final"
     words = sheet.run("return document.body.innerText + document.title").lower()
     assert not [word for word in ("edition", "version", "board", "row") if word in words.split()]
@@ -482,25 +680,46 @@ def test_an_overlay_is_the_table_alone_on_a_transparent_ground(sheet, tmp_path):
     image = pytest.importorskip("PIL.Image", reason="no Pillow: python3-pil has it")
     sheet.open("group=A&overlay")
     sheet.take(SEASON["A"][0].line())
-    sheet.browser.execute_cdp_cmd("Emulation.setDefaultBackgroundColorOverride", {"color": {"r": 0, "g": 0, "b": 0, "a": 0}})
+    sheet.browser.execute_cdp_cmd(
+        "Emulation.setDefaultBackgroundColorOverride", {"color": {"r": 0, "g": 0, "b": 0, "a": 0}}
+    )
     try:
-        picture = base64.b64decode(sheet.browser.execute_cdp_cmd("Page.captureScreenshot", {"format": "png"})["data"])
+        picture = base64.b64decode(
+            sheet.browser.execute_cdp_cmd("Page.captureScreenshot", {"format": "png"})["data"]
+        )
     finally:
         sheet.browser.execute_cdp_cmd("Emulation.setDefaultBackgroundColorOverride", {})
     (tmp_path / "overlay.png").write_bytes(picture)
     alpha = image.open(tmp_path / "overlay.png").convert("RGBA").getchannel("A")
-    left, top, right, bottom = (round(it) for it in sheet.run("const it = document.querySelector('table').getBoundingClientRect(); return [it.left, it.top, it.right, it.bottom]"))
+    left, top, right, bottom = (
+        round(it)
+        for it in sheet.run(
+            "const it = document.querySelector('table').getBoundingClientRect(); return [it.left, it.top, it.right, it.bottom]"
+        )
+    )
     assert alpha.getextrema() == (0, 255) and alpha.getbbox() == (left, top, right, bottom)
     assert alpha.getpixel((left + 60, top + 8)) > 200 and bottom < LARGE[1] / 2
-    assert sheet.run("return [...document.querySelectorAll('header, footer, .matches, #title')].every((it) => it.offsetHeight === 0)")
+    assert sheet.run(
+        "return [...document.querySelectorAll('header, footer, .matches, #title')].every((it) => it.offsetHeight === 0)"
+    )
 
 
 @pytest.mark.quick
 def test_an_overlay_says_when_its_picture_is_old(sheet):
     """By a mark that covers nothing and moves nothing; or it is hidden as a whole."""
-    moment, seen = SEASON["A"][0], "return [...document.querySelectorAll('.signal, table')].map((it) => it.checkVisibility({checkVisibilityCSS: true}) && it.offsetHeight > 0)"
-    where = lambda name: sheet.run("const it = document.querySelector(arguments[0]).getBoundingClientRect(); return [it.left, it.top, it.right, it.bottom]", name)
-    for words, is_old, size in ("overlay", [True, True], LARGE), ("overlay", [True, True], (390, 844)), ("overlay&silent", [False, False], LARGE):
+    moment, seen = (
+        SEASON["A"][0],
+        "return [...document.querySelectorAll('.signal, table')].map((it) => it.checkVisibility({checkVisibilityCSS: true}) && it.offsetHeight > 0)",
+    )
+    where = lambda name: sheet.run(
+        "const it = document.querySelector(arguments[0]).getBoundingClientRect(); return [it.left, it.top, it.right, it.bottom]",
+        name,
+    )
+    for words, is_old, size in (
+        ("overlay", [True, True], LARGE),
+        ("overlay", [True, True], (390, 844)),
+        ("overlay&silent", [False, False], LARGE),
+    ):
         sheet.open(f"group=A&{words}", size)
         sheet.run("tell()")
         assert sheet.run(seen) == is_old
@@ -513,8 +732,15 @@ def test_an_overlay_says_when_its_picture_is_old(sheet):
         assert sheet.run(seen) == is_old and where("table") == before
         mark, table = where(".signal"), where("table")
         if "silent" not in words:
-            assert table[0] < mark[0] and mark[2] < table[2] and table[1] < mark[1] and sheet.run("return inks().filter((ink) => !ink.parent.closest('header')).every((ink) => {"
-                "const it = where(document.querySelector('.signal')); return ink.right <= it.left || ink.left >= it.right || ink.bottom <= it.top || ink.top >= it.bottom; })")
+            assert (
+                table[0] < mark[0]
+                and mark[2] < table[2]
+                and table[1] < mark[1]
+                and sheet.run(
+                    "return inks().filter((ink) => !ink.parent.closest('header')).every((ink) => {"
+                    "const it = where(document.querySelector('.signal')); return ink.right <= it.left || ink.left >= it.right || ink.bottom <= it.top || ink.top >= it.bottom; })"
+                )
+            )
         sheet.take(SEASON["A"][1].line())
         assert sheet.run(seen) == [False, True] and sheet.take()["A"] == SEASON["A"][1].shown()
 
@@ -523,12 +749,20 @@ def test_an_overlay_says_when_its_picture_is_old(sheet):
 def test_an_overlay_without_a_group_on_a_server_of_several(sheet):
     """It says so in one line, and shows no other than it did."""
     line = lambda groups: HALL % ("Finals", groups, "{}")
-    choice = lambda: sheet.run("const it = document.getElementById('choice'); return it.offsetHeight > 0 ? it.textContent : ''")
+    choice = lambda: sheet.run(
+        "const it = document.getElementById('choice'); return it.offsetHeight > 0 ? it.textContent : ''"
+    )
     a, b = (SEASON[group][0] for group in "AB")
     sheet.open("overlay")
-    assert sheet.take(line("AB"), b.line(), a.line()) == {} and choice() == "Groups A, B: add &group=A to the address"
+    assert (
+        sheet.take(line("AB"), b.line(), a.line()) == {}
+        and choice() == "Groups A, B: add &group=A to the address"
+    )
     assert sheet.take(line("B"), a.line(), b.line()) == {"B": b.shown()} and choice() == ""
-    assert sheet.take(line("AB"), a.line(), SEASON["B"][1].line()) == {"B": SEASON["B"][1].shown()} and choice() != ""
+    assert (
+        sheet.take(line("AB"), a.line(), SEASON["B"][1].line()) == {"B": SEASON["B"][1].shown()}
+        and choice() != ""
+    )
     for words, letters in ("overlay&group=b", "B"), ("overlay&wall", "AB"), ("", "AB"):
         sheet.open(words)
         assert [*sheet.take(line("AB"))] == [*letters] and choice() == ""
@@ -558,12 +792,24 @@ def test_matches_that_are_over_stay_until_their_clubs_play_again(sheet):
     changed = model.match_of(second[2].matches[first[2].games[0] - 1].word())
     for word in "reopen", "fulltime":
         changed.enter(1, word)
-    later = second[2]._replace(matches=[changed if game == first[2].games[0] else it for game, it in enumerate(second[2].matches, 1)], edition=1)
+    later = second[2]._replace(
+        matches=[
+            changed if game == first[2].games[0] else it
+            for game, it in enumerate(second[2].matches, 1)
+        ],
+        edition=1,
+    )
     for moment in second[2], later, third[0].of(edition=1):
         assert sheet.take(moment.line()) == {"A": moment.shown()}
     last = SEASON["A"][14]._replace(matches=[*SEASON["A"][14].matches])
     last.matches[7] = model.match_of("2001000000001001")
-    for moment, games in (first[1], [6, 7]), (second[1], [2, 9]), (SEASON["A"][10], [12]), (last, [8]), (third[2], []):
+    for moment, games in (
+        (first[1], [6, 7]),
+        (second[1], [2, 9]),
+        (SEASON["A"][10], [12]),
+        (last, [8]),
+        (third[2], []),
+    ):
         sheet.open("group=A")
         assert sheet.take(moment.line()) == {"A": moment._replace(games=games).shown()}
     assert sheet.take(SEASON["A"][11].line()) == {"A": SEASON["A"][11].shown()}
@@ -577,10 +823,23 @@ def test_seasons_that_are_replayed(browser):
     """Whoever has the page and a server of files sees a matchday, or a season of a group or of all, which end as they did."""
     port = free_port()
     shown = lambda: browser.execute_script(SHOWN + "return shown()")
-    ends = {year: {letter: season(letter, year)[-1].shown() for letter in seasons.LETTERS} for year in seasons.SEASONS}
-    asked = [("replay&wall", "2021-22", "ABCDEFGH"), ("replay&group=C", "2021-22", "C"), ("replay", "2021-22", "A"), ("replay=2022-23&wall", "2022-23", "ABCDEFGH")]
-    asked += [(f"replay={year}&group={letter}", year, letter) for year, letter in zip(seasons.SEASONS, "BHE")]
-    with conftest.Started(["/usr/bin/python3", "-m", "http.server", "--bind", "127.0.0.1", str(port)], cwd=PAGE.parent) as server:
+    ends = {
+        year: {letter: season(letter, year)[-1].shown() for letter in seasons.LETTERS}
+        for year in seasons.SEASONS
+    }
+    asked = [
+        ("replay&wall", "2021-22", "ABCDEFGH"),
+        ("replay&group=C", "2021-22", "C"),
+        ("replay", "2021-22", "A"),
+        ("replay=2022-23&wall", "2022-23", "ABCDEFGH"),
+    ]
+    asked += [
+        (f"replay={year}&group={letter}", year, letter)
+        for year, letter in zip(seasons.SEASONS, "BHE")
+    ]
+    with conftest.Started(
+        ["/usr/bin/python3", "-m", "http.server", "--bind", "127.0.0.1", str(port)], cwd=PAGE.parent
+    ) as server:
         until(lambda: not socket.socket().connect_ex(("127.0.0.1", port)))
         for words, year, letters in asked:
             browser.get(f"http://127.0.0.1:{port}/?{words}&pace=1&details")
@@ -620,8 +879,17 @@ class Page:
 
     def play(self):
         """Ten matches that are finished, and two in play."""
-        events = [(number, [*["goal-home"] * home, *["goal-away"] * away, "fulltime"]) for number, (home, away) in FINISHED.items()]
-        self.enter(*[(number, word) for number, words in [*events, (11, []), (12, ["goal-home"])] for word in ["kickoff", *words]])
+        events = [
+            (number, [*["goal-home"] * home, *["goal-away"] * away, "fulltime"])
+            for number, (home, away) in FINISHED.items()
+        ]
+        self.enter(
+            *[
+                (number, word)
+                for number, words in [*events, (11, []), (12, ["goal-home"])]
+                for word in ["kickoff", *words]
+            ]
+        )
 
     def news(self, number):
         """What is told of a match in which a goal was scored."""
@@ -630,11 +898,22 @@ class Page:
 
     def wanted(self):
         """What the page has to show."""
-        return shown_of(self.matches, model.ROSTER, [number for number, match in enumerate(self.matches, 1) if match.state == model.IN_PLAY])
+        return shown_of(
+            self.matches,
+            model.ROSTER,
+            [
+                number
+                for number, match in enumerate(self.matches, 1)
+                if match.state == model.IN_PLAY
+            ],
+        )
 
     def got(self):
         """What the page shows, and what it last told who listens."""
-        return self.browser.execute_script(SHOWN + "return {...shown().A, news: (document.getElementById('news') || {}).textContent}")
+        return self.browser.execute_script(
+            SHOWN
+            + "return {...shown().A, news: (document.getElementById('news') || {}).textContent}"
+        )
 
     def shows(self, **more):
         """Awaits that the page shows what it has to."""
@@ -664,12 +943,34 @@ def test_what_a_screen_reader_is_told(page):
     page.play()
     page.shows()
     nodes = page.browser.execute_cdp_cmd("Accessibility.getFullAXTree", {})["nodes"]
-    told = [(node["role"]["value"], node.get("name", {}).get("value", "")) for node in nodes if not node.get("ignored") and "role" in node]
-    counts = {role: sum(it == role for it, _ in told) for role in ("table", "columnheader", "rowheader", "row", "heading", "list", "listitem")}
-    assert counts == {"table": 1, "columnheader": 12, "rowheader": 4, "row": 5, "heading": 1, "list": 1, "listitem": 2}
-    assert [name for role, name in told if role == "rowheader"] == [row[3] for row in page.wanted()["rows"]]
+    told = [
+        (node["role"]["value"], node.get("name", {}).get("value", ""))
+        for node in nodes
+        if not node.get("ignored") and "role" in node
+    ]
+    counts = {
+        role: sum(it == role for it, _ in told)
+        for role in ("table", "columnheader", "rowheader", "row", "heading", "list", "listitem")
+    }
+    assert counts == {
+        "table": 1,
+        "columnheader": 12,
+        "rowheader": 4,
+        "row": 5,
+        "heading": 1,
+        "list": 1,
+        "listitem": 2,
+    }
+    assert [name for role, name in told if role == "rowheader"] == [
+        row[3] for row in page.wanted()["rows"]
+    ]
     assert ("alert", "") in told
-    assert page.browser.execute_script("return document.getElementById('news').getAttribute('aria-live')") == "polite"
+    assert (
+        page.browser.execute_script(
+            "return document.getElementById('news').getAttribute('aria-live')"
+        )
+        == "polite"
+    )
 
 
 def test_a_mend(page):
@@ -679,10 +980,16 @@ def test_a_mend(page):
     page.browser.execute_script(NOTED)
     page.append("mend,6,,\n")
     page.matches[0] = model.Match()
-    page.shows(**shown_of(page.matches, model.ROSTER, [2], 1), news="Corrected. To come: Bravo 0, Charlie 0.")
+    page.shows(
+        **shown_of(page.matches, model.ROSTER, [2], 1),
+        news="Corrected. To come: Bravo 0, Charlie 0.",
+    )
     page.append('club,1,Alfa,"60000"\n')
     page.shows(**shown_of(page.matches, [("Alfa", 60_000), *model.ROSTER[1:]], [2], 2))
-    assert page.browser.execute_script("return noted") == ["edition 1, version 2", "edition 2, version 2"]
+    assert page.browser.execute_script("return noted") == [
+        "edition 1, version 2",
+        "edition 2, version 2",
+    ]
 
 
 @pytest.mark.parametrize("part", ["the program", "the server", "the server, stopped"])
@@ -712,7 +1019,9 @@ def test_a_wall_of_eight(hall, browser):
     browser.get(f"http://127.0.0.1:{one.port}/?details")
     matches = {letter: model.fresh() for letter in "ABCDEFGH"}
     for at, letter in enumerate(matches):
-        events = [(number, word) for number in range(1, 3) for word in ["kickoff", *["goal-home"] * at]]
+        events = [
+            (number, word) for number in range(1, 3) for word in ["kickoff", *["goal-home"] * at]
+        ]
         with open(one.folder / f"{letter.lower()}.csv", "a") as record:
             for number, word in events:
                 record.write(f"1,{number},{matches[letter][number - 1].number},{word}\n")

@@ -25,7 +25,11 @@ from drivers.wait import until
 from drivers.websocket import Socket
 
 pytestmark = pytest.mark.limit(200)
-HEADERS = {"cache-control": "no-store", "referrer-policy": "no-referrer", "x-content-type-options": "nosniff"}
+HEADERS = {
+    "cache-control": "no-store",
+    "referrer-policy": "no-referrer",
+    "x-content-type-options": "nosniff",
+}
 NOTHING = "default-src 'none'; frame-ancestors 'none'; base-uri 'none'; form-action 'none'"
 
 
@@ -36,15 +40,28 @@ NOTHING = "default-src 'none'; frame-ancestors 'none'; base-uri 'none'; form-act
 def test_what_it_prints_and_the_links(hall):
     """No key comes where the output may be kept; the links are told to who may read the file of keys, which nobody else may."""
     one = hall("--reporter", "1", "--reporter", "7:5,6", "--title", "Finals")
-    assert one.printed == f"Screens: http://127.0.0.1:{one.port}/\nFor phones give --listen 0.0.0.0:{one.port}\n"
+    assert (
+        one.printed
+        == f"Screens: http://127.0.0.1:{one.port}/\nFor phones give --listen 0.0.0.0:{one.port}\n"
+    )
     assert (one.folder / "a.csv.keys").stat().st_mode & 0o777 == 0o600
-    told = command([SERVE, "--links", "a.csv", "--url", "https://hall.example"], cwd=one.folder).output
-    assert told == "".join(f"a.csv, reporter {it}: https://hall.example/report/{one.key(it)}\n" for it in (1, 7))
+    told = command(
+        [SERVE, "--links", "a.csv", "--url", "https://hall.example"], cwd=one.folder
+    ).output
+    assert told == "".join(
+        f"a.csv, reporter {it}: https://hall.example/report/{one.key(it)}\n" for it in (1, 7)
+    )
     assert all(re.fullmatch("[0-9a-f]{32}", one.key(it)) for it in (1, 7))
     status, _, page = one.get("/health")
     assert status == 200 and one.key(1) not in page
     phone = one.phone(7)
-    assert phone.lines[0] == {"reply": "reporter", "number": 7, "group": "A", "matches": [5, 6], "title": "Finals"}
+    assert phone.lines[0] == {
+        "reply": "reporter",
+        "number": 7,
+        "group": "A",
+        "matches": [5, 6],
+        "title": "Finals",
+    }
     assert one.end(signal.SIGTERM) == (0, "", "")
 
 
@@ -58,8 +75,16 @@ def test_keys_stay_after_a_kill_and_end_with_new_ones(hall):
     one.end()
     one.start("--revoke", "1", "--revoke", "3")
     third = one.key(1)
-    assert third != first and one.key(2) == second and one.get(f"/report/{first}")[0] == 404 and one.get(f"/report/{third}")[0] == 200
-    assert text_of(one.folder / "a.csv.keys") == f"1 {third}\n2 {second}\n" and (one.folder / "a.csv.keys").stat().st_mode & 0o777 == 0o600
+    assert (
+        third != first
+        and one.key(2) == second
+        and one.get(f"/report/{first}")[0] == 404
+        and one.get(f"/report/{third}")[0] == 200
+    )
+    assert (
+        text_of(one.folder / "a.csv.keys") == f"1 {third}\n2 {second}\n"
+        and (one.folder / "a.csv.keys").stat().st_mode & 0o777 == 0o600
+    )
     one.end()
     one.words = ["--reporter", "1"]
     one.start("--new-keys")
@@ -73,12 +98,20 @@ def test_keys_of_older_records_and_files_that_are_none(hall, live, tmp_path):
     (tmp_path / "a.csv.keys").write_text(f"1 {old}\n2 {old}\n\n1 {new}\n2 {new[1:]}")
     (tmp_path / "a.csv.keys").chmod(0o600)
     one = hall("--reporter", "1", "--reporter", "2", "--reporter", "3")
-    assert (one.key(1), one.key(2)) == (new, old) and refused(tmp_path, live, "a.csv") == (1, "ucl_serve: a.csv is served already\n")
+    assert (one.key(1), one.key(2)) == (new, old) and refused(tmp_path, live, "a.csv") == (
+        1,
+        "ucl_serve: a.csv is served already\n",
+    )
     one.end()
     os.rename(tmp_path / "a.csv.keys", tmp_path / "kept")
-    for make in os.mkfifo, lambda path: os.truncate(os.open(path, os.O_CREAT | os.O_WRONLY, 0o600), 2 << 20):
+    for make in os.mkfifo, lambda path: os.truncate(
+        os.open(path, os.O_CREAT | os.O_WRONLY, 0o600), 2 << 20
+    ):
         make(tmp_path / "a.csv.keys")
-        assert refused(tmp_path, live, "--links", "a.csv") == (1, "ucl_serve: a.csv.keys is no file of keys\n")
+        assert refused(tmp_path, live, "--links", "a.csv") == (
+            1,
+            "ucl_serve: a.csv.keys is no file of keys\n",
+        )
         assert refused(tmp_path, live, "a.csv") == (1, "ucl_serve: a.csv.keys is no file of keys\n")
         (tmp_path / "a.csv.keys").unlink()
 
@@ -87,8 +120,14 @@ def test_what_is_said_of_one_group(hall, live, tmp_path):
     """A reporter of one record, its matches, its links, and the matches of the evening."""
     words = ["--reporter", "1:1,2", "--reporter", "b/2:3,4", "--reporter", "B/1:5"]
     one = hall(*words, "--tonight", "B/7", records=("a.csv", "b.csv"))
-    assert [*one.health()["groups"]["A"]["phones"]] == ["1"] and [*one.health()["groups"]["B"]["phones"]] == ["1", "2"]
-    assert [one.phone(*it).lines[0]["matches"] for it in ((1,), (1, "b.csv"), (2, "b.csv"))] == [[1, 2], [5], [3, 4]]
+    assert [*one.health()["groups"]["A"]["phones"]] == ["1"] and [
+        *one.health()["groups"]["B"]["phones"]
+    ] == ["1", "2"]
+    assert [one.phone(*it).lines[0]["matches"] for it in ((1,), (1, "b.csv"), (2, "b.csv"))] == [
+        [1, 2],
+        [5],
+        [3, 4],
+    ]
     assert one.screen().receive()["tonight"] == {"A": [1, 2], "B": [7]}
     before = one.key(1), one.key(1, "b.csv")
     one.end()
@@ -97,8 +136,19 @@ def test_what_is_said_of_one_group(hall, live, tmp_path):
     one.end()
     kept = text_of(tmp_path / "a.csv.keys")
     for word in "C/1", "C/1:3":
-        assert refused(tmp_path, live, "a.csv", "--new-keys", "--reporter", word) == (2, "ucl_serve: no record is of group C\n")
-    for words in ["--reporter", "I/1"], ["--reporter", "B/"], ["--reporter", "B/1:"], ["--tonight", "0"], ["--tonight", "B/"], ["--revoke", "x"], ["--revoke", "1:2"]:
+        assert refused(tmp_path, live, "a.csv", "--new-keys", "--reporter", word) == (
+            2,
+            "ucl_serve: no record is of group C\n",
+        )
+    for words in (
+        ["--reporter", "I/1"],
+        ["--reporter", "B/"],
+        ["--reporter", "B/1:"],
+        ["--tonight", "0"],
+        ["--tonight", "B/"],
+        ["--revoke", "x"],
+        ["--revoke", "1:2"],
+    ):
         assert refused(tmp_path, live, "a.csv", *words)[0] == 2
     assert text_of(tmp_path / "a.csv.keys") == kept
 
@@ -131,16 +181,26 @@ def test_a_code_for_each_address(monkeypatch, capsys):
     from ucl_hall.web import command, links, options
 
     class Adapter:
-        ips = [type("IP", (), {"ip": it}) for it in ("127.0.0.1", ("fd00::2", 0, 0), "192.168.1.5", "10.0.0.7")]
+        ips = [
+            type("IP", (), {"ip": it})
+            for it in ("127.0.0.1", ("fd00::2", 0, 0), "192.168.1.5", "10.0.0.7")
+        ]
 
     monkeypatch.setattr("ifaddr.get_adapters", lambda: [Adapter])
     monkeypatch.setattr(links, "_of_default_route", lambda: ["10.0.0.7"])
-    assert links.hosts_of("0.0.0.0") == ["10.0.0.7", "192.168.1.5"] and links.hosts_of("hall.local") == ["hall.local"]
+    assert links.hosts_of("0.0.0.0") == ["10.0.0.7", "192.168.1.5"] and links.hosts_of(
+        "hall.local"
+    ) == ["hall.local"]
     monkeypatch.setattr("sys.stdout.isatty", lambda: True)
     monkeypatch.setattr(links, "code_of", lambda url: f"code of {url}")
-    command.tell_links(options.options_of(["a.csv", "--listen", "0.0.0.0:8080"]), [("Reporter 1", "k")])
+    command.tell_links(
+        options.options_of(["a.csv", "--listen", "0.0.0.0:8080"]), [("Reporter 1", "k")]
+    )
     urls = [f"http://{it}:8080/report/k" for it in ("10.0.0.7", "192.168.1.5")]
-    assert capsys.readouterr().out.splitlines() == [command.SEEN, *(line for url in urls for line in (f"Reporter 1: {url}", f"code of {url}"))]
+    assert capsys.readouterr().out.splitlines() == [
+        command.SEEN,
+        *(line for url in urls for line in (f"Reporter 1: {url}", f"code of {url}")),
+    ]
 
 
 def test_files_that_the_pages_leave_are_no_sources():
@@ -148,7 +208,10 @@ def test_files_that_the_pages_leave_are_no_sources():
     if command(["git", "rev-parse"]).status:
         pytest.skip("no checkout of git")
     pages = "".join(text_of(TOP / name) for name in ("README.md", "docs/OPERATE.md"))
-    records = {it for it in re.findall(r"\./ucl_(?:serve|reporter) ([a-z]+\.csv)", pages)} | {"a.csv", "h.csv"}
+    records = {it for it in re.findall(r"\./ucl_(?:serve|reporter) ([a-z]+\.csv)", pages)} | {
+        "a.csv",
+        "h.csv",
+    }
     assert {"evening.csv", "trial.csv"} < records
     for name in records | {f"{it}.keys" for it in records}:
         assert command(["git", "check-ignore", name]).status == 0, name
@@ -166,15 +229,34 @@ def test_starts_that_are_refused(hall, live, tmp_path):
     clubs = ["--clubs", CLUBS]
     assert refused(tmp_path, live, "a.csv") == (1, "ucl_serve: a.csv is served already\n")
     taken = f"127.0.0.1:{one.port}"
-    assert refused(tmp_path, live, "b.csv", *clubs, "--listen", taken) == (1, f"ucl_serve: {taken}: another program listens there\n")
-    assert refused(tmp_path, live, "c.csv") == (1, "ucl_serve: there is no c.csv: give --clubs FILE, or type this line at a terminal\n")
+    assert refused(tmp_path, live, "b.csv", *clubs, "--listen", taken) == (
+        1,
+        f"ucl_serve: {taken}: another program listens there\n",
+    )
+    assert refused(tmp_path, live, "c.csv") == (
+        1,
+        "ucl_serve: there is no c.csv: give --clubs FILE, or type this line at a terminal\n",
+    )
     for name in "de":
         (tmp_path / f"{name}.csv").write_text(text_of(tmp_path / "a.csv"))
-    assert refused(tmp_path, live, "d.csv", "e.csv") == (2, "ucl_serve: two records are of group A\n")
+    assert refused(tmp_path, live, "d.csv", "e.csv") == (
+        2,
+        "ucl_serve: two records are of group A\n",
+    )
     (tmp_path / "d.csv.keys").chmod(0o640)
     status, errors = refused(tmp_path, live, "d.csv")
-    assert status == 1 and errors.startswith("ucl_serve: others can read d.csv.keys, which has keys")
-    for words in ["--listen", "here"], ["--reporter", "256"], ["--reporter", "1:13"], ["--key", "x"], ["--url", "ftp://x"], ["--most-screens", "0"], ["a.csv"]:
+    assert status == 1 and errors.startswith(
+        "ucl_serve: others can read d.csv.keys, which has keys"
+    )
+    for words in (
+        ["--listen", "here"],
+        ["--reporter", "256"],
+        ["--reporter", "1:13"],
+        ["--key", "x"],
+        ["--url", "ftp://x"],
+        ["--most-screens", "0"],
+        ["a.csv"],
+    ):
         assert refused(tmp_path, live, "a.csv", *words)[0] == 2
     assert one.health()["groups"]["A"]["is_there"]
 
@@ -186,7 +268,11 @@ def test_ctrl_c_at_the_questions(hall, live, tmp_path):
         one.sees("The group's letter").enter("b", "Order, ")
         while one.read(0.5):
             pass  # the question is there before it reads
-        assert one.end("\x03") == 130 and "Traceback" not in one.text() and not [*tmp_path.glob("b.csv*")]
+        assert (
+            one.end("\x03") == 130
+            and "Traceback" not in one.text()
+            and not [*tmp_path.glob("b.csv*")]
+        )
     finally:
         one.kill()
 
@@ -197,11 +283,17 @@ def test_a_signal_in_the_midst_of_a_start(hall, live, tmp_path, number, status):
     (tmp_path / "a.csv").write_text("group,A,uefa,0\n" + model.CLUBS)
     (tmp_path / "silent").write_text("#!/bin/sh\ntouch begun\nexec sleep 1000\n")
     (tmp_path / "silent").chmod(0o755)
-    server = Started([SERVE, "a.csv", "--listen", f"127.0.0.1:{free_port()}"], cwd=tmp_path, env={**os.environ, "UCL_LIVE": str(tmp_path / "silent")})
+    server = Started(
+        [SERVE, "a.csv", "--listen", f"127.0.0.1:{free_port()}"],
+        cwd=tmp_path,
+        env={**os.environ, "UCL_LIVE": str(tmp_path / "silent")},
+    )
     assert until((tmp_path / "begun").exists, 60)
     child = pathlib.Path(f"/proc/{server.pid}/task/{server.pid}/children").read_text().split()[0]
     server.send_signal(number)
-    assert server.end() == (status, "", "") and until(lambda: not pathlib.Path(f"/proc/{child}").exists())
+    assert server.end() == (status, "", "") and until(
+        lambda: not pathlib.Path(f"/proc/{child}").exists()
+    )
 
 
 def test_what_one_is_told_on_another_address(hall, live, tmp_path):
@@ -210,7 +302,9 @@ def test_what_one_is_told_on_another_address(hall, live, tmp_path):
     port = free_port()
     words = [SERVE, "a.csv", "--listen", f"0.0.0.0:{port}", "--url", "http://hall.example/"]
     with Started(words, cwd=tmp_path, env={**os.environ, "UCL_LIVE": str(live)}) as server:
-        assert server.lines(2).startswith("Screens: http://hall.example/\nWithout --certificate whoever is on this network can")
+        assert server.lines(2).startswith(
+            "Screens: http://hall.example/\nWithout --certificate whoever is on this network can"
+        )
 
 
 # ---- who may do what
@@ -220,26 +314,72 @@ def test_what_one_is_told_on_another_address(hall, live, tmp_path):
 def test_pages_and_headers(hall):
     """A page may run its own script and style, by their sums, and no other."""
     one = hall("--reporter", "1")
-    for path, name in ("/", "index.html"), (f"/report/{one.key(1)}", "report.html"), ("/?wall", "index.html"):
+    for path, name in (
+        ("/", "index.html"),
+        (f"/report/{one.key(1)}", "report.html"),
+        ("/?wall", "index.html"),
+    ):
         status, headers, body = one.get(path)
         text = text_of(TOP / "ucl_hall/web/pages" / name)
-        sums = {part: base64.b64encode(hashlib.sha256(re.search(f"<{part}>(.*?)</{part}>", text, re.S)[1].encode()).digest()).decode() for part in ("script", "style")}
+        sums = {
+            part: base64.b64encode(
+                hashlib.sha256(
+                    re.search(f"<{part}>(.*?)</{part}>", text, re.S)[1].encode()
+                ).digest()
+            ).decode()
+            for part in ("script", "style")
+        }
         policy = f"{NOTHING}; script-src 'sha256-{sums['script']}'; style-src 'sha256-{sums['style']}'; connect-src 'self'"
-        assert (status, body) == (200, text) and {**headers, **HEADERS, "content-security-policy": policy} == headers
-        assert "http:" not in text.replace("http://HOST", "") and "https:" not in text and one.key(1) not in body
+        assert (status, body) == (200, text) and {
+            **headers,
+            **HEADERS,
+            "content-security-policy": policy,
+        } == headers
+        assert (
+            "http:" not in text.replace("http://HOST", "")
+            and "https:" not in text
+            and one.key(1) not in body
+        )
     assert one.get("/replay.jsonl")[2] == text_of(TOP / "ucl_hall/web/pages/replay.jsonl")
-    paths = ["/report.html", "/index.html", "/report", "/report/", "/report/x", f"/report/{'0' * 32}", f"/report/{one.key(1)}/", f"/report/{one.key(1).upper()}x"]
-    for path in [*paths, "/../ucl_serve", "/..%2f..%2fetc/passwd", "/a.csv", "/a.csv.keys", "/favicon.ico", "/lines/", "//", "/%00"]:
+    paths = [
+        "/report.html",
+        "/index.html",
+        "/report",
+        "/report/",
+        "/report/x",
+        f"/report/{'0' * 32}",
+        f"/report/{one.key(1)}/",
+        f"/report/{one.key(1).upper()}x",
+    ]
+    for path in [
+        *paths,
+        "/../ucl_serve",
+        "/..%2f..%2fetc/passwd",
+        "/a.csv",
+        "/a.csv.keys",
+        "/favicon.ico",
+        "/lines/",
+        "//",
+        "/%00",
+    ]:
         status, headers, body = one.get(path)
-        assert status == 404 and {**headers, **HEADERS, "content-security-policy": NOTHING} == headers, path
+        assert (
+            status == 404 and {**headers, **HEADERS, "content-security-policy": NOTHING} == headers
+        ), path
 
 
 @pytest.mark.quick
 def test_a_key_is_of_one_record_and_one_number(hall):
     one = hall("--reporter", "1:3", "--reporter", "2", records=("a.csv", "b.csv"))
     of_a, of_b = one.phone(1), one.phone(1, "b.csv")
-    assert [phone.lines[0]["group"] for phone in (of_a, of_b)] == ["A", "B"] and len({one.key(it, file) for it in (1, 2) for file in ("a.csv", "b.csv")}) == 4
-    assert of_b.answer(3, 0, "kickoff") == "entered" and one.rows("b.csv") == ["1,3,0,kickoff"] and one.rows() == []
+    assert [phone.lines[0]["group"] for phone in (of_a, of_b)] == ["A", "B"] and len(
+        {one.key(it, file) for it in (1, 2) for file in ("a.csv", "b.csv")}
+    ) == 4
+    assert (
+        of_b.answer(3, 0, "kickoff") == "entered"
+        and one.rows("b.csv") == ["1,3,0,kickoff"]
+        and one.rows() == []
+    )
     of_a.tap(4, 0, "kickoff")
     assert of_a.is_closed() and one.rows() == []
 
@@ -247,7 +387,14 @@ def test_a_key_is_of_one_record_and_one_number(hall):
 def test_a_page_of_another_host_opens_no_websocket(hall):
     one = hall("--reporter", "1")
     for path in "/lines", f"/report/{one.key(1)}/taps":
-        for origin in "http://evil.example", "", "null", "http://[", f"http://127.0.0.1:{one.port}.evil.example", f"http://127.0.0.1:{one.port + 1}":
+        for origin in (
+            "http://evil.example",
+            "",
+            "null",
+            "http://[",
+            f"http://127.0.0.1:{one.port}.evil.example",
+            f"http://127.0.0.1:{one.port + 1}",
+        ):
             assert Socket(one.port, path, origin=origin).status == 403
         assert Socket(one.port, path).status == 101
 
@@ -258,14 +405,35 @@ def test_names_that_are_not_of_this_server(hall):
     one = hall("--reporter", "1", "--url", "http://Hall.example:8080/")
     paths = ["/", "/health", "/replay.jsonl", f"/report/{one.key(1)}"]
     asked = lambda path, host: one.get(path, f"Host: {host}", host=False)[0]
-    for host in "evil.example", "evil.example:80", f"127.0.0.1.evil.example:{one.port}", "local", "hall.example.evil", "[", "x@hall.example.evil", "":
+    for host in (
+        "evil.example",
+        "evil.example:80",
+        f"127.0.0.1.evil.example:{one.port}",
+        "local",
+        "hall.example.evil",
+        "[",
+        "x@hall.example.evil",
+        "",
+    ):
         assert {asked(path, host) for path in paths} <= {403, 400}, host
         assert Socket(one.port, "/lines", host=host, origin=f"http://{host}").status in (403, 400)
-    for host in "127.0.0.1", f"127.0.0.1:{one.port}", "192.168.1.5", "[::1]:8080", "localhost", "laptop.local:8080", "hall.example", "HALL.example:8080":
+    for host in (
+        "127.0.0.1",
+        f"127.0.0.1:{one.port}",
+        "192.168.1.5",
+        "[::1]:8080",
+        "localhost",
+        "laptop.local:8080",
+        "hall.example",
+        "HALL.example:8080",
+    ):
         assert {asked(path, host) for path in paths} == {200}, host
         assert Socket(one.port, "/lines", host=host).status == 101
     begun = time.monotonic()
-    assert Socket(one.port, "/lines", host="", origin="http://x").status == 403 and time.monotonic() - begun < 1
+    assert (
+        Socket(one.port, "/lines", host="", origin="http://x").status == 403
+        and time.monotonic() - begun < 1
+    )
     assert one.get("/health", host=False)[0] == 200
 
 
@@ -276,9 +444,15 @@ def test_more_screens_than_may_be(hall):
     assert [screen.status for screen in screens] == [101, 101, 503]
     assert one.phone(1).answer(1, 0, "kickoff") == "entered"
     screens[0].socket.close()
-    assert until(lambda: screens.append(one.screen(source="127.0.0.2")) or screens[-1].status == 101)
+    assert until(
+        lambda: screens.append(one.screen(source="127.0.0.2")) or screens[-1].status == 101
+    )
     others = [one.screen(source=it) for it in ("127.0.0.3", "127.0.0.4", "127.0.0.1", "127.0.0.1")]
-    assert [it.status for it in others] == [101, 503, 101, 503] and screens[-1].is_closed() and one.health()["screens"] == 3
+    assert (
+        [it.status for it in others] == [101, 503, 101, 503]
+        and screens[-1].is_closed()
+        and one.health()["screens"] == 3
+    )
 
 
 def test_more_screens_than_an_address_may_have(hall):
@@ -299,16 +473,46 @@ def test_taps_and_answers(hall):
     screen, first, second = one.screen(), one.phone(1), one.phone(2)
     assert screen.receive() == {"reply": "hall", "title": "", "groups": "A", "tonight": {}}
     assert screen.receive()["version"] == 0
-    assert first.answer(1, 0, "kickoff") == "entered" and second.answer(1, 1, "goal-away") == "entered"
-    assert first.until("screen", version=2)["matches"][0]["score"] == [0, 1] and screen.until("screen", version=2)
-    assert first.until("recent")["events"] == [{"row": 7, "reporter": 2, "match": 1, "event": "goal-away", "number": 2}, {"row": 6, "reporter": 1, "match": 1, "event": "kickoff", "number": 1}]
-    wanted = {(1, 1, "goal-away"): "stale", (2, 0, "goal-home"): "not-started", (1, 2, "kickoff"): "already-started", (1, 2, "reopen"): "not-finished"}
-    wanted |= {(1, 2, "disallow-home"): "no-goal", (1, 2, "second-yellow-home"): "no-caution", (1, 2, "fulltime"): "entered", (1, 3, "red-away"): "finished"}
+    assert (
+        first.answer(1, 0, "kickoff") == "entered" and second.answer(1, 1, "goal-away") == "entered"
+    )
+    assert first.until("screen", version=2)["matches"][0]["score"] == [0, 1] and screen.until(
+        "screen", version=2
+    )
+    assert first.until("recent")["events"] == [
+        {"row": 7, "reporter": 2, "match": 1, "event": "goal-away", "number": 2},
+        {"row": 6, "reporter": 1, "match": 1, "event": "kickoff", "number": 1},
+    ]
+    wanted = {
+        (1, 1, "goal-away"): "stale",
+        (2, 0, "goal-home"): "not-started",
+        (1, 2, "kickoff"): "already-started",
+        (1, 2, "reopen"): "not-finished",
+    }
+    wanted |= {
+        (1, 2, "disallow-home"): "no-goal",
+        (1, 2, "second-yellow-home"): "no-caution",
+        (1, 2, "fulltime"): "entered",
+        (1, 3, "red-away"): "finished",
+    }
     for tap, name in wanted.items():
         said = first.until("answer", id=first.tap(*tap))
-        assert said["name"] == name and (said["told"] == "Entered, 0\u20131" or said["told"].startswith("Not entered: ")) and len(said["told"]) < 80
-    assert not [line for line in second.lines if line["reply"] == "answer" and line["name"] != "entered"]
-    assert one.health()["groups"]["A"] == {"edition": 0, "version": 3, "rows": 14, "is_there": True, "phones": {"1": 1, "2": 1}, "fault": ""}
+        assert (
+            said["name"] == name
+            and (said["told"] == "Entered, 0\u20131" or said["told"].startswith("Not entered: "))
+            and len(said["told"]) < 80
+        )
+    assert not [
+        line for line in second.lines if line["reply"] == "answer" and line["name"] != "entered"
+    ]
+    assert one.health()["groups"]["A"] == {
+        "edition": 0,
+        "version": 3,
+        "rows": 14,
+        "is_there": True,
+        "phones": {"1": 1, "2": 1},
+        "fault": "",
+    }
 
 
 @pytest.mark.quick
@@ -319,13 +523,23 @@ def test_one_tap_is_entered_once_whoever_asks(hall):
     for name in "tap", "tap", "ask":
         assert phone.answer(1, 0, "kickoff", name, id=id) == "entered"
     lost = os.urandom(16).hex()
-    assert phone.answer(1, 1, "goal-home", "ask", id=lost) == "lost" == phone.answer(1, 1, "goal-home", id=lost)
+    assert (
+        phone.answer(1, 1, "goal-home", "ask", id=lost)
+        == "lost"
+        == phone.answer(1, 1, "goal-home", id=lost)
+    )
     assert one.rows() == ["1,1,0,kickoff"]
     one.end()
     one.start()
     phone = one.phone(1)
-    assert phone.answer(1, 0, "kickoff", "ask", id=id) == "entered" and phone.answer(1, 1, "goal-home", "ask", id=lost) == "lost"
-    assert phone.answer(1, 0, "red-home", "ask") == "lost" and phone.answer(1, 0, "kickoff", "ask", edition=1) == "dropped"
+    assert (
+        phone.answer(1, 0, "kickoff", "ask", id=id) == "entered"
+        and phone.answer(1, 1, "goal-home", "ask", id=lost) == "lost"
+    )
+    assert (
+        phone.answer(1, 0, "red-home", "ask") == "lost"
+        and phone.answer(1, 0, "kickoff", "ask", edition=1) == "dropped"
+    )
     assert one.rows() == ["1,1,0,kickoff"]
 
 
@@ -336,7 +550,9 @@ def test_two_phones_of_one_link_are_answered_each_for_itself(hall):
     ids = [phone.tap(1, 1, "goal-home") for phone in phones]
     names = sorted(phone.until("answer", id=id)["name"] for phone, id in zip(phones, ids))
     assert names == ["entered", "stale"] and one.rows()[1:] == ["1,1,1,goal-home"] * 2
-    assert [[line["id"] for line in phone.lines if line["reply"] == "answer"][-1] for phone in phones] == ids
+    assert [
+        [line["id"] for line in phone.lines if line["reply"] == "answer"][-1] for phone in phones
+    ] == ids
 
 
 @pytest.mark.quick
@@ -350,12 +566,22 @@ def test_how_many_phones_a_link_has(hall):
     assert one.health()["groups"]["A"]["phones"] == {"1": 2, "2": 1}
     time.sleep(1.5)
     again = one.phone(1, page="x")
-    assert first.is_closed() and again.until("phones")["count"] == 2 and again.answer(1, 0, "kickoff") == "entered"
+    assert (
+        first.is_closed()
+        and again.until("phones")["count"] == 2
+        and again.answer(1, 0, "kickoff") == "entered"
+    )
     second.socket.close()
     assert again.until("phones")["count"] == 1
     more = [one.phone(1) for _ in range(8)]
-    assert again.is_closed() and more[0].until("phones", count=8) and more[0].answer(1, 1, "goal-home") == "entered"
-    assert one.health()["groups"]["A"]["phones"]["1"] == 8 and [line["count"] for line in other.lines if line["reply"] == "phones"] in ([], [1])
+    assert (
+        again.is_closed()
+        and more[0].until("phones", count=8)
+        and more[0].answer(1, 1, "goal-home") == "entered"
+    )
+    assert one.health()["groups"]["A"]["phones"]["1"] == 8 and [
+        line["count"] for line in other.lines if line["reply"] == "phones"
+    ] in ([], [1])
     assert one.end(signal.SIGTERM) == (0, "", "ucl_serve: reporter 1 has 2 phones\n")
 
 
@@ -364,13 +590,27 @@ def test_a_mend_while_phones_look_on(hall):
     """A tap from before it is not entered, phones are told what no longer counts, and screens get the whole board of the next edition."""
     one = hall("--reporter", "1")
     phone, screen = one.phone(1), one.screen()
-    assert [phone.answer(*tap) for tap in [(1, 0, "kickoff"), (1, 1, "goal-home"), (1, 2, "disallow-home"), (1, 3, "yellow-away")]] == ["entered"] * 4
+    assert [
+        phone.answer(*tap)
+        for tap in [
+            (1, 0, "kickoff"),
+            (1, 1, "goal-home"),
+            (1, 2, "disallow-home"),
+            (1, 3, "yellow-away"),
+        ]
+    ] == ["entered"] * 4
     with open(one.folder / "a.csv", "a") as record:
         record.write("mend,7,,\n")
     assert phone.until("left-out")["row"] == 8 and phone.until("mended")["left_out"] == 1
-    assert phone.until("screen", edition=1)["matches"][0]["number"] == 2 and screen.until("screen", edition=1)["version"] == 2
+    assert (
+        phone.until("screen", edition=1)["matches"][0]["number"] == 2
+        and screen.until("screen", edition=1)["version"] == 2
+    )
     assert [it["row"] for it in phone.until("recent")["events"]] == [9, 6]
-    assert phone.answer(1, 2, "goal-away") == "dropped" and phone.answer(1, 2, "goal-away", edition=1) == "entered"
+    assert (
+        phone.answer(1, 2, "goal-away") == "dropped"
+        and phone.answer(1, 2, "goal-away", edition=1) == "entered"
+    )
 
 
 # ---- bad input
@@ -380,11 +620,30 @@ def test_messages_that_are_no_taps(hall):
     """Each closes its connection, and enters nothing. Each is of a link of its own: those of one link are counted together."""
     one = hall(*[word for number in range(1, 61) for word in ("--reporter", f"{number}:1")])
     tap = {"tap": "ab" * 16, "edition": 0, "match": 1, "expected": 0, "event": "kickoff"}
-    wrong = [{"tap": it} for it in ("", "AB" * 16, "ab" * 17, 7, None, ["ab" * 16])] + [{"match": it} for it in (0, 2, 13, "1", 1.0, True, None, 1 << 80)]
-    wrong += [{"edition": it} for it in (-1, 65536, "0")] + [{"expected": it} for it in (-1, 65536, [])] + [{"event": it} for it in ("", "goal", "mend", 5, {}, "kickoff\n")]
+    wrong = [{"tap": it} for it in ("", "AB" * 16, "ab" * 17, 7, None, ["ab" * 16])] + [
+        {"match": it} for it in (0, 2, 13, "1", 1.0, True, None, 1 << 80)
+    ]
+    wrong += (
+        [{"edition": it} for it in (-1, 65536, "0")]
+        + [{"expected": it} for it in (-1, 65536, [])]
+        + [{"event": it} for it in ("", "goal", "mend", 5, {}, "kickoff\n")]
+    )
     texts = [json.dumps({**tap, **it}) for it in wrong]
     links = iter(range(1, 61))
-    for text in [*texts, "", "x", "null", "[]", "{}", "[" * 1000, '{"tap":', "\0", "x" * 1025, "1" * 900, json.dumps({**tap, "more": "x" * 1024})]:
+    for text in [
+        *texts,
+        "",
+        "x",
+        "null",
+        "[]",
+        "{}",
+        "[" * 1000,
+        '{"tap":',
+        "\0",
+        "x" * 1025,
+        "1" * 900,
+        json.dumps({**tap, "more": "x" * 1024}),
+    ]:
         phone = one.phone(next(links))
         phone.send(text)
         assert phone.is_closed(), text
@@ -404,16 +663,39 @@ def test_more_messages_than_may_be(hall):
     for _ in range(40):
         with contextlib.suppress(ConnectionError):
             phone.tap(1, 9, "goal-home")
-    assert phone.is_closed() and len([line for line in phone.lines if line["reply"] == "answer"]) <= 20
+    assert (
+        phone.is_closed() and len([line for line in phone.lines if line["reply"] == "answer"]) <= 20
+    )
 
 
 def test_a_thousand_hostile_requests_and_frames(hall):
     """The server answers afterwards, at once."""
     one, chance = hall("--reporter", "1", "--reporter", "2"), random.Random(7)
-    parts = [b"GET / HTTP/1.1\r\n", b"Host: x\r\n", b"\r\n", b"\0", b"\xff" * 20, b"Content-Length: 99999999999\r\n", b"Transfer-Encoding: chunked\r\n", b"POST / HTTP/1.1\r\n", b"Upgrade: websocket\r\n"]
-    parts += [b"Connection: Upgrade\r\n", b"Sec-WebSocket-Key: x\r\n", b"Sec-WebSocket-Version: 99\r\n", b"A" * 9000, b"GET /\r\n", b"\x16\x03\x01", b"PRI * HTTP/2.0\r\n\r\nSM\r\n\r\n", b"5\r\nhello\r\n"]
+    parts = [
+        b"GET / HTTP/1.1\r\n",
+        b"Host: x\r\n",
+        b"\r\n",
+        b"\0",
+        b"\xff" * 20,
+        b"Content-Length: 99999999999\r\n",
+        b"Transfer-Encoding: chunked\r\n",
+        b"POST / HTTP/1.1\r\n",
+        b"Upgrade: websocket\r\n",
+    ]
+    parts += [
+        b"Connection: Upgrade\r\n",
+        b"Sec-WebSocket-Key: x\r\n",
+        b"Sec-WebSocket-Version: 99\r\n",
+        b"A" * 9000,
+        b"GET /\r\n",
+        b"\x16\x03\x01",
+        b"PRI * HTTP/2.0\r\n\r\nSM\r\n\r\n",
+        b"5\r\nhello\r\n",
+    ]
     for _ in range(500):
-        with contextlib.suppress(OSError), socket.create_connection(("127.0.0.1", one.port), 10) as rough:
+        with contextlib.suppress(OSError), socket.create_connection(
+            ("127.0.0.1", one.port), 10
+        ) as rough:
             rough.sendall(b"".join(chance.choices(parts, k=chance.randint(1, 8))))
     for at in range(500):
         rough = one.phone(1) if at % 2 else one.screen()
@@ -424,7 +706,10 @@ def test_a_thousand_hostile_requests_and_frames(hall):
     assert phone.answer(1, 0, "kickoff") == "entered"
     assert until(lambda: one.health()["screens"] == 0 and one.health()["reporters"] == 1)
     status, output, errors = one.end(signal.SIGTERM)
-    assert (status, output) == (0, "") and re.fullmatch(r"(ucl_serve: (reporter 1 has \d phones; )?cut off \d+ connections, all of 127.0.0.1\n)?", errors)
+    assert (status, output) == (0, "") and re.fullmatch(
+        r"(ucl_serve: (reporter 1 has \d phones; )?cut off \d+ connections, all of 127.0.0.1\n)?",
+        errors,
+    )
 
 
 def test_a_connection_has_one_request(hall):
@@ -452,7 +737,11 @@ def test_a_request_that_is_not_whole_in_ten_seconds(hall):
 
 def test_two_thousand_idle_connections_under_a_limit_of_files(hall):
     """A tap is answered all the while."""
-    one = hall("--reporter", "1", preexec_fn=lambda: resource.setrlimit(resource.RLIMIT_NOFILE, (1024, 1024)))
+    one = hall(
+        "--reporter",
+        "1",
+        preexec_fn=lambda: resource.setrlimit(resource.RLIMIT_NOFILE, (1024, 1024)),
+    )
     soft, hard = resource.getrlimit(resource.RLIMIT_NOFILE)
     resource.setrlimit(resource.RLIMIT_NOFILE, (hard, hard))
     phone, idle = one.phone(1), []
@@ -460,7 +749,12 @@ def test_two_thousand_idle_connections_under_a_limit_of_files(hall):
         for at in range(2000):
             idle.append(socket.create_connection(("127.0.0.1", one.port), 10))
             if at % 500 == 250:
-                assert phone.answer(1, at // 500, ["kickoff", "goal-home", "goal-away", "fulltime"][at // 500]) == "entered"
+                assert (
+                    phone.answer(
+                        1, at // 500, ["kickoff", "goal-home", "goal-away", "fulltime"][at // 500]
+                    )
+                    == "entered"
+                )
         assert one.phone(1).answer(2, 0, "kickoff") == "entered"
     finally:
         for connection in idle:
@@ -476,9 +770,15 @@ def test_a_record_that_is_replaced(hall):
     (one.folder / "new").write_text(text + "1,1,0,kickoff\n")
     os.replace(one.folder / "new", one.folder / "a.csv")
     assert until(lambda: not one.health()["groups"]["A"]["is_there"])
-    assert "has become another file" in one.health()["fault"] and one.health()["groups"]["A"]["fault"]
+    assert (
+        "has become another file" in one.health()["fault"] and one.health()["groups"]["A"]["fault"]
+    )
     told = json.loads(one.get("/health", source="127.0.0.2")[2])
-    assert told["fault"] == told["groups"]["A"]["fault"] == "look at the server" and told["groups"]["B"]["fault"] == "" and phone.answer(1, 0, "kickoff") == "maybe"
+    assert (
+        told["fault"] == told["groups"]["A"]["fault"] == "look at the server"
+        and told["groups"]["B"]["fault"] == ""
+        and phone.answer(1, 0, "kickoff") == "maybe"
+    )
     assert one.phone(1, "b.csv").answer(1, 0, "kickoff") == "entered"
     while phone.socket.settimeout(2.5) is None:
         try:
@@ -487,7 +787,10 @@ def test_a_record_that_is_replaced(hall):
             break
     os.replace(one.folder / "a.csv", one.folder / "b.csv")
     ended = one.process.end()
-    assert ended.status == 1 and [line.split(": ")[:2] for line in ended.errors.splitlines()] == [["ucl_serve", "group A"], ["ucl_serve", "group B"]]
+    assert ended.status == 1 and [line.split(": ")[:2] for line in ended.errors.splitlines()] == [
+        ["ucl_serve", "group A"],
+        ["ucl_serve", "group B"],
+    ]
 
 
 # ---- what is killed, stopped or slow
@@ -510,9 +813,13 @@ def test_the_server_is_killed_while_taps_are_on_the_way(hall):
         phone, rows = one.phone(1), one.rows()
         for number, id in taps[-6:]:
             event = "yellow-home" if number else "kickoff"
-            assert phone.answer(1, number, event, "ask", id=id) == ("entered" if f"1,1,{number},{event}" in rows else "lost")
+            assert phone.answer(1, number, event, "ask", id=id) == (
+                "entered" if f"1,1,{number},{event}" in rows else "lost"
+            )
     rows = one.rows()
-    assert rows == [f"1,1,{number},{'yellow-home' if number else 'kickoff'}" for number in range(len(rows))]
+    assert rows == [
+        f"1,1,{number},{'yellow-home' if number else 'kickoff'}" for number in range(len(rows))
+    ]
 
 
 def test_a_tap_that_lies_in_a_stopped_server_is_not_entered_once_it_was_asked_about(hall):
@@ -529,7 +836,10 @@ def test_a_tap_that_lies_in_a_stopped_server_is_not_entered_once_it_was_asked_ab
         time.sleep(0.05)
         assert (name == "entered") == (len(one.rows()) == number + 1)
         if name != "entered":
-            assert name == "lost" and phone.answer(1, number, "yellow-home" if number else "kickoff") == "entered"
+            assert (
+                name == "lost"
+                and phone.answer(1, number, "yellow-home" if number else "kickoff") == "entered"
+            )
 
 
 def test_a_slow_screen_gets_the_newest_and_holds_nobody_up(hall):

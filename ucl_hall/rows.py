@@ -1,4 +1,4 @@
-"""Rows of a record: events, clubs, mends, and the names of events and fixtures.
+"""Rows of a record: events, clubs, mends, and the names of events.
 
 No rule of events stands here: what a row changes, and whether it is taken, `ucl_live` says.
 """
@@ -7,11 +7,6 @@ import re
 from dataclasses import dataclass
 from typing import Annotated
 
-# The slots that play a match, the home side first; matches are numbered from 1.
-FIXTURES = (
-    *((2, 3), (4, 1), (1, 2), (3, 4), (3, 1), (2, 4)),
-    *((1, 3), (4, 2), (3, 2), (1, 4), (2, 1), (4, 3)),
-)
 SIDES = ("home", "away")
 KINDS = ("goal", "disallow", "yellow", "second-yellow", "red")
 EVENTS = (
@@ -82,6 +77,14 @@ def event_row(text: str) -> tuple[int, Row] | None:
     if reporter is None or match is None or expected is None:
         return None
     return reporter, Row(match, expected, fields[3])
+
+
+def has_answer(row: bytes) -> bool:
+    """Whether a row of an open board has an answer: each has one, but for an empty line.
+
+    Until a board is open, which is with its fourth club, none has.
+    """
+    return bool(row.strip(b"\r\n"))
 
 
 def group_row(group: str, order: str) -> bytes:

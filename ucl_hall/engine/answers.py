@@ -30,9 +30,12 @@ Goals = Annotated[int, range(379)]
 
 @dataclass(frozen=True, slots=True)
 class Match:
-    """A match as it stands. Pairs are of the home and the visiting side; reporter 0 is nobody."""
+    """A match as it stands: the slots that play it, and pairs of the home and the visiting side.
+    Reporter 0 is nobody."""
 
     match: Annotated[int, range(1, 13)]
+    home: Annotated[int, range(1, 5)]
+    away: Annotated[int, range(1, 5)]
     number: Number
     reporter: Annotated[int, range(256)]
     state: Annotated[str, ("SCHEDULED", "IN PLAY", "FINISHED")]

@@ -14,7 +14,7 @@ from ucl_hall.engine.json_lines import NoAnswer, answer_of, reply_of
 from ucl_hall.engine.process import Child, ask, last_screen
 from ucl_hall.engine.trial import Change, Trial, tried
 from ucl_hall.faults import Late, Unknown
-from ucl_hall.rows import event_row
+from ucl_hall.rows import event_row, has_answer
 
 Listener = Callable[[Reply], None]
 # How long a whole reading may take, in seconds.
@@ -46,18 +46,16 @@ class Live:
         """
         # A run of its own tells the moment that stands: it takes a tenth of the time that the
         # child needs, which tells a screen after each event.
-        self.moment, self._wanted = await last_screen(self._program, bytes(self._rows))
+        self.moment, is_answered = await last_screen(self._program, bytes(self._rows))
+        self._wanted = self._wanted if is_answered else 0
         self._quiet = self.count
         await self.child.start()
 
     def feed(self, row: bytes) -> int:
-        """Hands a row to the child, and gives its number.
-
-        Once a board is open each row has an answer, but for one that is empty.
-        """
+        """Hands a row to the child, and gives its number."""
         self._rows += row
         self.count += 1
-        if row.strip(b"\r\n"):
+        if has_answer(row):
             self._wanted = self.count
         self.child.write(row)
         return self.count

@@ -6,7 +6,7 @@ import contextlib
 from collections.abc import Callable
 from dataclasses import replace
 
-from ucl_hall.engine.answers import Answer, Moment, kind_in, row_in
+from ucl_hall.engine.answers import Answer, Moment, kind_in
 from ucl_hall.engine.json_lines import NoAnswer, answer_of
 from ucl_hall.faults import Ended, Failed, Killed, NotStarted, Unknown
 from ucl_hall.rows import SCREEN
@@ -29,9 +29,9 @@ async def ask(program: str, rows: bytes) -> list[Answer]:
     return [_known(line) for line in lines if line and kind_in(line) != "ok"]
 
 
-async def last_screen(program: str, rows: bytes) -> tuple[Moment, int]:
-    """The moment after these rows, with the number of the last of them; and the last that has an
-    answer, 0 where none has.
+async def last_screen(program: str, rows: bytes) -> tuple[Moment, bool]:
+    """The moment after these rows, with the number of the last of them; and whether one of them
+    has an answer.
 
     Raises Over where they are no record, or the program fails.
     """
@@ -40,7 +40,7 @@ async def last_screen(program: str, rows: bytes) -> tuple[Moment, int]:
     moment = _known(screen)
     if not isinstance(moment, Moment):
         raise Unknown(screen[:80])
-    return replace(moment, row=rows.count(b"\n")), row_in(before[0]) if before else 0
+    return replace(moment, row=rows.count(b"\n")), bool(before)
 
 
 class Child:

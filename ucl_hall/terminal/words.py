@@ -3,7 +3,7 @@
 from ucl_hall.engine.answers import LeftOut, Match, Moment, Refused, Title
 from ucl_hall.engine.trial import Trial
 from ucl_hall.refusals import ADVICE
-from ucl_hall.rows import FIXTURES, Row, club_row
+from ucl_hall.rows import Row, club_row
 
 # What is asked before a change is entered.
 QUESTION = "append it? y or n> "
@@ -33,7 +33,7 @@ def matches(moment: Moment, numbers: list[int]) -> list[str]:
 
 def match(title: Title, it: Match) -> str:
     """A match: its clubs, what it stands at, and who entered its last event."""
-    home, away = (title.clubs[slot - 1].club for slot in FIXTURES[it.match - 1])
+    home, away = (title.clubs[slot - 1].club for slot in (it.home, it.away))
     if not it.number:
         return f"{home} v {away}, to come"
     cards = ""
