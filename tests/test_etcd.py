@@ -882,3 +882,31 @@ def test_pages_go_to_the_next_server(
         time.sleep(1)
         rows = rows_of(nodes, first.words[0])
         assert len(rows) == 7 and rows[6].endswith(b" 1,1,1,goal-home")
+
+
+@pytest.mark.parametrize("end", [signal.SIGKILL, signal.SIGSTOP])
+def test_a_terminal_goes_to_the_next_server(
+    nodes: Nodes, live: str, tmp_path: pathlib.Path, end: signal.Signals
+) -> None:
+    """By the link of one; a line without an answer goes in by itself, once."""
+    (first, second), path = pair(nodes, live, tmp_path)
+    with both([first, second]):
+        words = [TOP / "ucl_reporter", f"http://127.0.0.1:{first.port}{path}"]
+        with Started(words, cwd=tmp_path) as far:
+            far.write("1 goal home\n")
+            assert far.lines().startswith("1 goal home             entered, row 7: Bravo 1-0")
+            first.signal(signal.SIGSTOP)
+            far.write("1 goal home\n")
+            first.signal(end)
+            assert far.lines().startswith("1 goal home             entered, row 8: Bravo 2-0")
+            first.signal(signal.SIGCONT if end is signal.SIGSTOP else signal.SIGKILL)
+            far.write("1 goal away\n")
+            assert far.lines().startswith("1 goal away             entered, row 9: Bravo 2-1")
+            assert far.end().status == 0
+        rows = [row.partition(b" ")[2] for row in rows_of(nodes, first.words[0])]
+        assert rows[5:] == [
+            b"1,1,0,kickoff",
+            b"1,1,1,goal-home",
+            b"1,1,2,goal-home",
+            b"1,1,3,goal-away",
+        ]
