@@ -9,7 +9,7 @@ from ucl_hall.engine.answers import Accepted, LeftOut, Mended, Moment, Reply
 from ucl_hall.engine.history import Event
 from ucl_hall.engine.json_lines import NoAnswer, answer_of, line_of, part_of, reply_of
 from ucl_hall.engine.trial import Change, Trial
-from ucl_hall.faults import Dropped, Lost, MaybeEntered, NotEntered
+from ucl_hall.faults import Dropped, Lost, MaybeEntered, NotEntered, kind_of
 from ucl_hall.remote.link import LONGEST, Link, Said, text_of
 from ucl_hall.record.sending import Entered, Events, Outcome, Sending, Way, new_id
 from ucl_hall.rows import MATCHES, REPORTERS, Row
@@ -21,34 +21,17 @@ LONGEST_FAULT = 400
 NAMES = {Way.FIRST: "tap", Way.AGAIN: "again", Way.ASKED: "ask"}
 
 
-class AtDesk(NotEntered):
-    """It is not entered from afar."""
-
-    text = "a mend is entered at the desk, on the machine that has the record"
-
-
-class NotYours(NotEntered):
-    """A match is another reporter's by now."""
-
-    text = "match {} is not yours"
-
-
-class NoMoreYours(MaybeEntered):
-    """A match is another reporter's by now, and was not when it was sent."""
-
-    text = "match {} is not yours any more; " + MaybeEntered.text.partition(": ")[2]
-
-
-class TooLong(NotEntered):
-    """A line has more events than one message."""
-
-    text = "these are too many events for one line from here: enter fewer at a time"
-
-
-class Told(MaybeEntered):
-    """Nobody knows whether it is in: the server says why."""
-
-    text = "{}"
+AtDesk = kind_of(NotEntered, "a mend is entered at the desk, on the machine that has the record")
+TooLong = kind_of(
+    NotEntered, "these are too many events for one line from here: enter fewer at a time"
+)
+# A match is another reporter's by now, and was so when it was typed, or not when it was sent.
+NotYours = kind_of(NotEntered, "match {} is not yours")
+NoMoreYours = kind_of(
+    MaybeEntered, "match {} is not yours any more; " + MaybeEntered.text.partition(": ")[2]
+)
+# The server says why nobody knows whether it is in.
+Told = kind_of(MaybeEntered, "{}")
 
 
 class Remote:

@@ -14,7 +14,7 @@ from dataclasses import dataclass
 import aiohttp
 from yarl import URL
 
-from ucl_hall.faults import Over
+from ucl_hall.faults import Over, kind_of
 
 Said = Mapping[str, object]
 # Seconds: a server that says nothing for so long is gone, and where there are others one that does
@@ -27,25 +27,12 @@ NO_CONNECTION = "No connection: what you enter is sent once it is there again"
 _SERVER = re.compile(r"https?://[^/\s]+/?")
 
 
-class NoLink(Over):
-    """A server knows no such link."""
-
-    text = "{} is the link of no reporter there: ask for a new one"
-
-
-class OtherName(Over):
-    """A server does not go by the name in a link."""
-
-    text = "{}: the server has another name: give the link as it prints it"
-
-
-class NotTrusted(Over):
-    """The certificate of a server is none: its address, and why."""
-
-    text = "{}: {}"
-
-
-REFUSED = {403: OtherName, 404: NoLink}
+# What the link is told to be: by the status of a server, and where its certificate is none.
+REFUSED = {
+    403: kind_of(Over, "{}: the server has another name: give the link as it prints it"),
+    404: kind_of(Over, "{} is the link of no reporter there: ask for a new one"),
+}
+NotTrusted = kind_of(Over, "{}: {}")
 
 
 class Pace:
@@ -107,7 +94,7 @@ class Link:
         return [sent for sent in self._sent.values() if not sent.answer.done()]
 
     async def run(self) -> None:
-        """Keeps it open. Raises NoLink, OtherName and NotTrusted where no server takes it."""
+        """Keeps it open. Raises Over where no server takes it."""
         async with aiohttp.ClientSession() as session:
             while True:
                 here = self._places.pop(0)

@@ -9,7 +9,7 @@ import sys
 from collections.abc import Mapping, Sequence
 from urllib.parse import urlsplit
 
-from ucl_hall.faults import Over
+from ucl_hall.faults import BadArgument, Over
 from ucl_hall.program import ending, text_of, until_ended
 from ucl_hall.program import live_program, program_named
 from ucl_hall.record import begin, places
@@ -34,13 +34,6 @@ OPEN = (
     "or use a network of your own."
 )
 SEEN = "Whoever sees a code can enter events: keep this terminal off every projector."
-
-
-class NoSuchGroups(Over):
-    """The records are not of the groups that the command line says: two are of one, or none is of
-    one that it names."""
-
-    status = 2
 
 
 def urls_of(options: Options) -> list[str]:
@@ -109,8 +102,9 @@ async def serve(options: Options, first: Mapping[str, bytes]) -> int:
     """Serves until no record can be followed any more, each file for this server alone, and gives
     the status.
 
-    Begins the records of which there are first rows. Raises NoSuchGroups where two are of one group,
-    Over where the port is taken, and what `keys.held` and `Record.open` raise.
+    Begins the records of which there are first rows. Raises BadArgument where the records are not
+    of the groups that are meant, Over where the port is taken, and what `keys.held` and
+    `Record.open` raise.
     """
     program, groups, screens = live_program(), list[Group](), Screens()
     most = min(options.most_screens, files_for_screens())
@@ -165,13 +159,13 @@ async def mirror(options: Options) -> int:
 
 
 def _check_groups(options: Options, groups: Sequence[str]) -> None:
-    """Raises NoSuchGroups where the records of these groups are not those that are meant."""
+    """Raises BadArgument where the records of these groups are not those that are meant."""
     twice = [group for group in groups if groups.count(group) > 1]
     strangers = options.strangers(groups)
     if twice:
-        raise NoSuchGroups(f"two records are of group {twice[0]}")
+        raise BadArgument(f"two records are of group {twice[0]}")
     if strangers:
-        raise NoSuchGroups(f"no record is of group {strangers[0]}")
+        raise BadArgument(f"no record is of group {strangers[0]}")
 
 
 def _watch(group: Group, over: "asyncio.Future[None]") -> None:
