@@ -1,13 +1,12 @@
 """Where the lines of a mirror come from: the feed of another server, or standard input."""
 
 import asyncio
-import contextlib
 import os
-import threading
 from collections.abc import Awaitable, Callable
 
 import aiohttp
 
+from ucl_hall.program import read_input
 from ucl_hall.text import warn
 from ucl_hall.web.feed import KIND
 
@@ -81,27 +80,7 @@ async def _follow_feed(url: str, take: Take) -> None:
 
 
 async def _follow_input(take: Take) -> None:
-    pieces: asyncio.Queue[bytes] = asyncio.Queue()
-    loop, room = asyncio.get_running_loop(), threading.Semaphore(4)
-
-    def read() -> None:
-        # The loop may be over meanwhile: a read of a pipe can not be ended.
-        with contextlib.suppress(RuntimeError):
-            while piece := _piece():
-                room.acquire()
-                loop.call_soon_threadsafe(pieces.put_nowait, piece)
-            loop.call_soon_threadsafe(pieces.put_nowait, b"")
-
-    threading.Thread(target=read, daemon=True).start()
     lines = Lines(take)
-    while piece := await pieces.get():
+    async for piece in read_input(lambda: os.read(0, PIECE)):
         await lines.add(piece)
-        room.release()
     warn("ucl_serve: standard input has ended: nothing newer comes from there")
-
-
-def _piece() -> bytes:
-    """What comes next on standard input; nothing at its end, and where it can not be read."""
-    with contextlib.suppress(OSError):
-        return os.read(0, PIECE)
-    return b""
