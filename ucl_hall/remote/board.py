@@ -3,7 +3,6 @@
 import asyncio
 from collections import defaultdict
 from collections.abc import Callable, Sequence
-from typing import Any
 
 from ucl_hall.engine.answers import Accepted, LeftOut, Mended, Moment, Reply
 from ucl_hall.engine.history import Event
@@ -19,7 +18,6 @@ from ucl_hall.text import printable, warn
 LONGEST_FAULT = 400
 # By what name of its id a message is sent.
 NAMES = {Way.FIRST: "tap", Way.AGAIN: "again", Way.ASKED: "ask"}
-
 
 AtDesk = kind_of(NotEntered, "a mend is entered at the desk, on the machine that has the record")
 TooLong = kind_of(
@@ -37,22 +35,24 @@ Told = kind_of(MaybeEntered, "{}")
 class Remote:
     """A board that is followed by a link. `Remote.open` makes one, and `close` ends it.
 
-    `number` and `matches` are the reporter's. `notices` has that the connection is lost, and an
-    empty text once it is there again.
+    `number` and `matches` are the reporter's. `tell` is called where the connection is lost, with
+    what that means, and with an empty text once it is there again.
     """
 
     def __init__(self, url: str) -> None:
         self.number, self.matches = 0, list[int]()
-        self.notices: asyncio.Queue[str] = asyncio.Queue()
-        self._link = Link(url, self._heard, self.notices.put_nowait)
+        self.tell = _warn
+        self._link = Link(url, self._heard, lambda notice: self.tell(notice))
         self._moment: Moment | None = None
         self._listeners: list[Callable[[Reply], None]] = []
         # What came of a mend before its screen, and the last event that was told.
         self._begun: list[LeftOut | Mended] = []
-        self._row = 0
-        self._is_known, self._grown = asyncio.Event(), asyncio.Event()
+        self._row, self._grown = 0, asyncio.Event()
         self._events = defaultdict[int, list[Event]](list)
-        self._over: asyncio.Future[None] = asyncio.get_running_loop().create_future()
+        loop = asyncio.get_running_loop()
+        # Whose link it is, and what stands, is known; and it can be followed no more.
+        self._known: asyncio.Future[None] = loop.create_future()
+        self._over: asyncio.Future[None] = loop.create_future()
         self._task = asyncio.create_task(self._run())
 
     @classmethod
@@ -63,16 +63,10 @@ class Remote:
         """
         remote = cls(url)
         try:
-            known = asyncio.create_task(remote._is_known.wait())
-            while not known.done():
-                notice = asyncio.create_task(remote.notices.get())
-                events: list[asyncio.Future[Any]] = [known, notice, remote.over]
-                await asyncio.wait(events, return_when=asyncio.FIRST_COMPLETED)
-                if remote.over.done():
-                    remote.over.result()
-                if notice.done():
-                    warn(f"ucl_reporter: {notice.result() or 'connected again'}")
-                notice.cancel()
+            either = [remote._known, remote.over]
+            await asyncio.wait(either, return_when=asyncio.FIRST_COMPLETED)
+            if remote.over.done():
+                remote.over.result()
         except BaseException:
             await remote.close()
             raise
@@ -192,17 +186,21 @@ class Remote:
         row, moment = self._row, self.moment
         self._row = max([row, *(event.row for event, _ in events)])
         for event, number in reversed(events):
-            if event.row > row and self._is_known.is_set():
+            if event.row > row and self._known.done():
                 told = Row(event.match, number - 1, event.event)
                 age = moment.edition, moment.version
                 answer = Accepted(event.row, event.reporter, told, number, *age, b"")
                 self._hand_on(Reply(answer, moment))
-        if self.number:
-            self._is_known.set()
+        if self.number and not self._known.done():
+            self._known.set_result(None)
 
     def _hand_on(self, reply: Reply) -> None:
         for listener in self._listeners:
             listener(reply)
+
+
+def _warn(notice: str) -> None:
+    warn(f"ucl_reporter: {notice or 'connected again'}")
 
 
 def _message(events: Events, name: str = "") -> Said:

@@ -7,9 +7,9 @@ import io
 import re
 import sys
 import time
-from collections.abc import Callable, Coroutine
+from collections.abc import Coroutine
 from dataclasses import dataclass
-from typing import Any
+from typing import TYPE_CHECKING, Any
 
 from ucl_hall.engine.trial import Change
 from ucl_hall.faults import NotEntered, Over
@@ -24,7 +24,9 @@ from ucl_hall.terminal.batch import enter_lines, watch_lines
 from ucl_hall.terminal.grammar import LINES, typed
 from ucl_hall.terminal.session import Display, Printed, Session
 from ucl_hall.terminal.setup import rows_by_questions
-from ucl_hall.text import warn
+
+if TYPE_CHECKING:
+    from ucl_hall.remote.board import Remote
 
 LINK = re.compile(r"https?://[^/\s]+/report/[^/\s]+/?")
 USAGE = """ucl_reporter RECORD [--number N] [--matches LIST] [--edition N]
@@ -60,13 +62,12 @@ answer, and is in the record at most once. A mend is entered at the desk.
 
 @dataclass(frozen=True, slots=True)
 class Opened:
-    """A board, who enters events there and of which matches, and why it is not reached: nothing is
-    told once it is."""
+    """A board, who enters events there and of which matches, and the link to it, if it is one."""
 
     board: Board
     own: int
     matches: list[int]
-    notices: asyncio.Queue[str]
+    link: "Remote | None" = None
 
 
 def options_of(arguments: list[str]) -> argparse.Namespace:
@@ -142,31 +143,12 @@ async def _done(options: argparse.Namespace, opened: Opened) -> int:
         from ucl_hall.terminal.screen import Screen
 
         screen = Screen(board, own, matches, is_watching=options.watch)
-        return await _told(opened.notices, screen.tell, screen.run())
+        if opened.link is not None:
+            opened.link.tell = screen.tell
+        return await screen.run()
     if options.watch:
-        return await _told(opened.notices, _warn, watch_lines(board, matches))
-    session = Session(board, own, matches, display)
-    return await _told(opened.notices, _warn, enter_lines(session, options.edition or 0))
-
-
-def _warn(notice: str) -> None:
-    warn(f"ucl_reporter: {notice or 'connected again'}")
-
-
-async def _told(
-    notices: asyncio.Queue[str], tell: Callable[[str], None], work: Coroutine[Any, Any, int]
-) -> int:
-    """Does work, and tells notices meanwhile."""
-
-    async def tell_all() -> None:
-        while True:
-            tell(await notices.get())
-
-    showing = asyncio.create_task(tell_all())
-    try:
-        return await work
-    finally:
-        showing.cancel()
+        return await watch_lines(board, matches)
+    return await enter_lines(Session(board, own, matches, display), options.edition or 0)
 
 
 async def _opened(options: argparse.Namespace, program: str, first: bytes | None) -> Opened:
@@ -175,7 +157,7 @@ async def _opened(options: argparse.Namespace, program: str, first: bytes | None
     if first is not None and not await begin(path, program, first):
         print(f"Another has begun {path} meanwhile: it stays as it is, and is used")
     record = await Record.open(path, program, is_read_only=options.watch or options.sheet)
-    return Opened(record, options.number or 1, options.matches or [*MATCHES], asyncio.Queue())
+    return Opened(record, options.number or 1, options.matches or [*MATCHES])
 
 
 async def _linked(options: argparse.Namespace) -> Opened:
@@ -189,7 +171,7 @@ async def _linked(options: argparse.Namespace) -> Opened:
     if len(matches) < len(options.matches or matches):
         await remote.close()
         raise Over(f"--matches: those of this link are {', '.join(map(str, remote.matches))}")
-    return Opened(remote, remote.number, matches, remote.notices)
+    return Opened(remote, remote.number, matches, remote)
 
 
 def _is_link(record: str) -> bool:
