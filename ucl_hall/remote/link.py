@@ -15,6 +15,7 @@ import aiohttp
 from yarl import URL
 
 from ucl_hall.faults import Over, kind_of
+from ucl_hall.text import members_of
 
 Said = Mapping[str, object]
 # Seconds: a server that says nothing for so long is gone, and where there are others one that does
@@ -168,12 +169,7 @@ class Link:
 
     def _take(self, line: str) -> bool:
         """Takes a line, and says whether it is a sign that the board is there."""
-        try:
-            said = json.loads(line)
-        except (ValueError, RecursionError):
-            return False
-        if not isinstance(said, dict):
-            return False
+        said = members_of(line)
         is_sign = self._is_sign(said)
         if said.get("reply") == "reporter":
             self._learn(said)

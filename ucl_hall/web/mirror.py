@@ -6,7 +6,6 @@ pulses do, and each says at which moment the board is.
 """
 
 import asyncio
-import json
 import time
 from collections.abc import Mapping
 from dataclasses import dataclass, field, replace
@@ -15,7 +14,7 @@ from ucl_hall.engine.answers import Moment, Reply
 from ucl_hall.engine.follow import Follow
 from ucl_hall.program import text_of
 from ucl_hall.rows import GROUPS, MATCHES
-from ucl_hall.text import printable, warn
+from ucl_hall.text import members_of, printable, warn
 from ucl_hall.web.server import Server
 from ucl_hall.web.shown import Shown
 
@@ -94,7 +93,7 @@ class Mirror:
 
     async def take(self, line: bytes) -> None:
         """Takes a line of any source: one that is none of a feed changes nothing."""
-        said = _said(line)
+        said = members_of(line)
         letter = said.get("group")
         if said.get("reply") == "pulse":
             self._hear(said)
@@ -145,15 +144,6 @@ class Mirror:
         if self._names != before:
             self._server.title = self._server.title if self._has_title else self._names.title
             self._server.tell_groups()
-
-
-def _said(line: bytes) -> Said:
-    """The members of a line; none of what is no object."""
-    try:
-        said = json.loads(line)
-    except (ValueError, RecursionError):
-        return {}
-    return said if isinstance(said, dict) else {}
 
 
 def _is_letter(value: object) -> bool:

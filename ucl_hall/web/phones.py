@@ -43,6 +43,7 @@ from ucl_hall.record.board import Board
 from ucl_hall.record.sending import Entered, Events, Outcome, Way
 from ucl_hall.refusals import ADVICE
 from ucl_hall.rows import EVENTS, LAST_EDITION, LAST_NUMBER, Row
+from ucl_hall.text import members_of
 from ucl_hall.web.connections import Screens
 from ucl_hall.web.visitors import A_SECOND, AT_ONCE, Allowance, Visitor
 
@@ -87,12 +88,7 @@ def message_of(text: str, matches: Sequence[int]) -> Tap | Asked:
 
     Raises ValueError where it is nothing.
     """
-    try:
-        said = json.loads(text)
-    except RecursionError as error:
-        raise ValueError("it nests too deep") from error
-    if not isinstance(said, dict):
-        raise ValueError("it is no object")
+    said = members_of(text)
     if isinstance(said.get("events"), str):
         return Asked(_id(said["events"]))
     ways = [way for way in WAYS if way in said]
