@@ -12,7 +12,7 @@ import ipaddress
 import itertools
 import logging
 import ssl
-from collections.abc import Awaitable, Callable, Collection, Sequence
+from collections.abc import AsyncIterator, Awaitable, Callable, Collection, Sequence
 from urllib.parse import urlsplit
 
 from aiohttp import WSMsgType, web
@@ -34,7 +34,6 @@ from ucl_hall.web.visitors import (
     WHOLE,
     Allowance,
     Places,
-    Visitor,
     Visitors,
     visitor_of,
 )
@@ -206,18 +205,11 @@ class Server:
     async def _lines(self, request: web.Request) -> web.StreamResponse:
         """A screen: it is sent lines, and sends none."""
         self._check_origin(request)
-        visitor = visitor_of(request)
-        place = self._screens, visitor.address
-        stream, screen = await _opened(request, visitor, *place, Allowance(OF_SCREEN, 0))
-        greeting = [group.moment.line for group in self.groups]
-        for line in self._hall, *greeting, self._pulse_line():
-            screen.write(frame_of(line))
-        self.screens.add(screen)
-        try:
-            await stream.receive()
-        finally:
-            self.screens.remove(screen)
-            visitor.stay_no_longer()
+        place = self._screens, visitor_of(request).address
+        async with _opened(request, *place, Allowance(OF_SCREEN, 0)) as (stream, screen):
+            moments = [group.moment.line for group in self.groups]
+            with self.screens.having(screen, self._hall, *moments, self._pulse_line()):
+                await stream.receive()
         return stream
 
     def _hall_line(self) -> bytes:
@@ -247,30 +239,26 @@ class Server:
             reporter.pages[page].end()
         reporter.pages[page] = visitor
         try:
-            stream, phone = await _opened(request, visitor, self._phones, link, reporter.bytes)
-            await self._take_taps(stream, phone, group, reporter)
+            async with _opened(request, self._phones, link, reporter.bytes) as (stream, phone):
+                with group.having(phone, reporter, self.title):
+                    self._count(group, reporter)
+                    await self._take_taps(stream, phone, reporter)
         finally:
             if reporter.pages.get(page) is visitor:
                 del reporter.pages[page]
-            visitor.stay_no_longer()
             self._count(group, reporter)
         return stream
 
     async def _take_taps(
-        self, stream: web.WebSocketResponse, phone: Screen, group: Group, reporter: Reporter
+        self, stream: web.WebSocketResponse, phone: Screen, reporter: Reporter
     ) -> None:
         tasks: set[asyncio.Task[None]] = set()
-        group.greet(phone, reporter, self.title)
-        self._count(group, reporter)
-        try:
-            async for message in stream:
-                if message.type != WSMsgType.TEXT or not reporter.messages.takes(1):
-                    return
-                task = asyncio.create_task(self._answer(phone, reporter, message.data))
-                tasks.add(task)
-                task.add_done_callback(tasks.discard)
-        finally:
-            group.part(phone, reporter)
+        async for message in stream:
+            if message.type != WSMsgType.TEXT or not reporter.messages.takes(1):
+                return
+            task = asyncio.create_task(self._answer(phone, reporter, message.data))
+            tasks.add(task)
+            task.add_done_callback(tasks.discard)
 
     def _count(self, group: Group, reporter: Reporter) -> None:
         """Tells how many phones have a link."""
@@ -311,21 +299,19 @@ class Server:
         return False
 
 
+@contextlib.asynccontextmanager
 async def _opened(
-    request: web.Request, visitor: Visitor, places: Places, owner: str, allowance: Allowance
-) -> tuple[web.WebSocketResponse, Screen]:
-    """The WebSocket of a request, and the connection that frames are written to, which stays.
-
-    Raises that the service is not available where there is no place for it.
-    """
+    request: web.Request, places: Places, owner: str, allowance: Allowance
+) -> AsyncIterator[tuple[web.WebSocketResponse, Screen]]:
+    """The WebSocket of a request, and the connection that frames are written to, which stays until
+    the block ends. Raises that there is no place for it."""
     stream = web.WebSocketResponse(max_msg_size=LONGEST, compress=False, timeout=1.0)
     if not stream.can_prepare(request).ok:
         raise web.HTTPBadRequest
-    if not visitor.stay(places, owner, allowance):
-        raise web.HTTPServiceUnavailable
-    await stream.prepare(request)
-    assert isinstance(request.transport, asyncio.WriteTransport)
-    return stream, Screen(request.transport)
+    with visitor_of(request).staying(places, owner, allowance):
+        await stream.prepare(request)
+        assert isinstance(request.transport, asyncio.WriteTransport)
+        yield stream, Screen(request.transport)
 
 
 async def _sent(request: web.Request, page: Page) -> web.StreamResponse:

@@ -135,19 +135,20 @@ class Visitor(asyncio.Protocol):
             other.cut_off()
         return other is not self
 
-    def stay(self, places: Places, owner: str, allowance: Allowance) -> bool:
-        """Has it stay, with what it may send from now on. False where there is no place for it."""
+    @contextlib.contextmanager
+    def staying(self, places: Places, owner: str, allowance: Allowance) -> Iterator[None]:
+        """Has it stay until the block ends, with what it may send from now on; then its place is
+        free, and it is over in ten seconds again. Raises that there is no place for it."""
         if not self.take(places, owner):
-            return False
+            raise web.HTTPServiceUnavailable
         self._timer.cancel()
         self._stays, self._allowance = True, allowance
-        return True
-
-    def stay_no_longer(self) -> None:
-        """Has one that stays be over in ten seconds again. Its place is free from now on."""
-        if self._stays and self._transport is not None:
-            self._leave()
-            self._timer = asyncio.get_running_loop().call_later(WHOLE, self.end)
+        try:
+            yield
+        finally:
+            if self._transport is not None:
+                self._leave()
+                self._timer = asyncio.get_running_loop().call_later(WHOLE, self.end)
 
     def cut_off(self) -> None:
         """Ends it at once, which the operator is told."""
