@@ -106,9 +106,8 @@ async def serve(options: Options, first: Mapping[str, bytes]) -> int:
     of the groups that are meant, Over where the port is taken, and what `keys.held` and
     `Record.open` raise.
     """
-    program, groups, screens = live_program(), list[Group](), Screens()
-    most = min(options.most_screens, files_for_screens())
-    server = Server(groups, groups, screens, options.title, most, names_of(options), options.at)
+    program, groups = live_program(), list[Group]()
+    server = _server(options, groups, groups)
     async with contextlib.AsyncExitStack() as stack:
         opened = list[tuple[Record, Keys]]()
         for path in options.records:
@@ -122,13 +121,18 @@ async def serve(options: Options, first: Mapping[str, bytes]) -> int:
             opened.append((record, keys))
         _check_groups(options, [record.moment.title.group for record, _ in opened])
         for record, keys in opened:
-            groups.append(await _group(options, record, keys, screens))
+            groups.append(await _group(options, record, keys, server.screens))
             _watch(groups[-1], record.over)
         await _listen(server, options)
         stack.push_async_callback(server.close)
         tell(options, groups)
         await asyncio.wait([group.record.over for group in groups])
     return 1
+
+
+def _server(options: Options, groups: Sequence[Shown], reported: Sequence[Group]) -> Server:
+    most = min(options.most_screens, files_for_screens())
+    return Server(groups, reported, options.title, most, names_of(options), options.at)
 
 
 async def _group(options: Options, record: Record, keys: Keys, screens: Screens) -> Group:
@@ -143,8 +147,8 @@ async def _group(options: Options, record: Record, keys: Keys, screens: Screens)
 
 async def mirror(options: Options) -> int:
     """Serves what other servers show, until a signal."""
-    groups, most = list[Shown](), min(options.most_screens, files_for_screens())
-    server = Server(groups, (), Screens(), options.title, most, names_of(options), options.at)
+    groups = list[Shown]()
+    server = _server(options, groups, ())
     shown = Mirror(server, groups, program_named("ucl_follow"))
     async with contextlib.AsyncExitStack() as stack:
         stack.push_async_callback(shown.close)

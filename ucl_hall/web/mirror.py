@@ -8,7 +8,6 @@ pulses do, and each says at which moment the board is.
 import asyncio
 import time
 from collections.abc import Mapping
-from dataclasses import dataclass, field, replace
 
 from ucl_hall.engine.answers import Moment, Reply
 from ucl_hall.engine.follow import Follow
@@ -24,19 +23,12 @@ Said = Mapping[str, object]
 Age = tuple[int, int]
 
 
-@dataclass
-class Names:
-    """What another server says of itself: its title, and the matches of the evening by groups."""
-
-    title: str = ""
-    tonight: dict[str, list[int]] = field(default_factory=dict)
-
-
 class MirroredGroup:
-    """A group of which other servers tell."""
+    """A group of which other servers tell. `evenings` has the matches of each group's, by whatever
+    they say last."""
 
-    def __init__(self, letter: str, follow: Follow, names: Names) -> None:
-        self.letter, self.follow, self.fault, self._names = letter, follow, "", names
+    def __init__(self, letter: str, follow: Follow, evenings: Mapping[str, list[int]]) -> None:
+        self.letter, self.follow, self.fault, self._evenings = letter, follow, "", evenings
         # The last pulse: edition and version of the board, and when it came; and the latest of all.
         self._pulse: Age = (-1, -1)
         self._latest, self._pulsed_at = self._pulse, 0.0
@@ -64,7 +56,7 @@ class MirroredGroup:
 
     def tonight(self) -> list[int] | None:
         """The matches of the evening, where the other server names them."""
-        return self._names.tonight.get(self.letter) or None
+        return self._evenings.get(self.letter) or None
 
     def health(self) -> dict[str, object]:
         """What whoever watches it is told."""
@@ -89,7 +81,7 @@ class Mirror:
     def __init__(self, server: Server, groups: list[Shown], program: str) -> None:
         self._server, self._groups, self._program = server, groups, program
         self._has_title = bool(server.title)
-        self._names, self._known = Names(), dict[str, MirroredGroup]()
+        self._evenings, self._known = dict[str, list[int]](), dict[str, MirroredGroup]()
 
     async def take(self, line: bytes) -> None:
         """Takes a line of any source: one that is none of a feed changes nothing."""
@@ -111,7 +103,7 @@ class Mirror:
     async def _group(self, letter: str) -> MirroredGroup:
         if letter not in self._known:
             follow = Follow(self._program, letter)
-            self._known[letter] = group = MirroredGroup(letter, follow, self._names)
+            self._known[letter] = group = MirroredGroup(letter, follow, self._evenings)
             follow.listen(lambda reply: self._show(group, reply))
             await follow.start()
         return self._known[letter]
@@ -133,16 +125,15 @@ class Mirror:
 
     def _name(self, said: Said) -> None:
         title, groups, tonight = (said.get(name) for name in ("title", "groups", "tonight"))
-        before = replace(self._names, tonight={**self._names.tonight})
-        if isinstance(title, str):
-            self._names.title = printable(title)
+        before = self._server.title, {**self._evenings}
+        if isinstance(title, str) and not self._has_title:
+            self._server.title = printable(title)
         if isinstance(groups, str) and isinstance(tonight, dict):
             for letter in filter(_is_letter, groups):
                 named = tonight.get(letter)
                 matches = [it for it in MATCHES if isinstance(named, list) and it in named]
-                self._names.tonight[letter] = matches
-        if self._names != before:
-            self._server.title = self._server.title if self._has_title else self._names.title
+                self._evenings[letter] = matches
+        if (self._server.title, self._evenings) != before:
             self._server.tell_groups()
 
 

@@ -57,13 +57,13 @@ class Server:
         self,
         groups: Sequence[Shown],
         reported: Sequence[Group],
-        screens: Screens,
         title: str,
         most: int,
         names: Collection[str] = (),
         at: Sequence[str] = (),
     ) -> None:
-        self.groups, self.reported, self.screens, self.title = groups, reported, screens, title
+        self.groups, self.reported, self.title = groups, reported, title
+        self.screens = Screens()
         self.names = {name.lower() for name in names}
         self.fault, self._at = "", at
         self.notices = Notices()
