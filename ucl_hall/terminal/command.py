@@ -8,14 +8,12 @@ import re
 import sys
 import time
 from collections.abc import Coroutine
-from dataclasses import dataclass
 from typing import TYPE_CHECKING, Any
 
 from ucl_hall.engine.trial import Change
 from ucl_hall.faults import NotEntered, Over
 from ucl_hall.program import ending, live_program
 from ucl_hall.record.begin import begin
-from ucl_hall.record.board import Board
 from ucl_hall.record.places import exists, opened
 from ucl_hall.record.record import Record
 from ucl_hall.rows import LAST_EDITION, MATCHES, REPORTERS, number_in
@@ -60,18 +58,11 @@ answer, and is in the record at most once. A mend is entered at the desk.
 """
 
 
-@dataclass(frozen=True, slots=True)
-class Opened:
-    """A board, who enters events there and of which matches, and the link to it, if it is one."""
-
-    board: Board
-    own: int
-    matches: list[int]
-    link: "Remote | None" = None
-
-
 def options_of(arguments: list[str]) -> argparse.Namespace:
-    """What the command line says; ends the program where it has none of the forms of the usage."""
+    """What the command line says; ends the program where it has none of the forms of the usage.
+
+    `number` and `matches` are None where it leaves them out.
+    """
     parser = argparse.ArgumentParser(
         prog="ucl_reporter",
         usage=USAGE,
@@ -123,17 +114,17 @@ def main() -> None:
         sys.exit(asyncio.run(_run(options, _opened(options, live_program(), first))))
 
 
-async def _run(options: argparse.Namespace, opening: Coroutine[Any, Any, Opened]) -> int:
-    opened = await opening
+async def _run(options: argparse.Namespace, opening: "Coroutine[Any, Any, Record | Remote]") -> int:
+    board = await opening
     try:
-        return await _done(options, opened)
+        return await _done(options, board)
     finally:
-        await opened.board.close()
+        await board.close()
 
 
-async def _done(options: argparse.Namespace, opened: Opened) -> int:
+async def _done(options: argparse.Namespace, board: "Record | Remote") -> int:
     """Does what the command line says, and gives the status."""
-    board, own, matches, display = opened.board, opened.own, opened.matches, Printed()
+    own, matches, display = options.number or 1, options.matches or [*MATCHES], Printed()
     if options.sheet:
         display.show(*words.sheet(board.moment))
         return 0
@@ -143,35 +134,34 @@ async def _done(options: argparse.Namespace, opened: Opened) -> int:
         from ucl_hall.terminal.screen import Screen
 
         screen = Screen(board, own, matches, is_watching=options.watch)
-        if opened.link is not None:
-            opened.link.tell = screen.tell
+        if not isinstance(board, Record):
+            board.tell = screen.tell
         return await screen.run()
     if options.watch:
         return await watch_lines(board, matches)
     return await enter_lines(Session(board, own, matches, display), options.edition or 0)
 
 
-async def _opened(options: argparse.Namespace, program: str, first: bytes | None) -> Opened:
+async def _opened(options: argparse.Namespace, program: str, first: bytes | None) -> Record:
     """Opens the record, which begins with the first rows if there are any."""
     path = options.record
     if first is not None and not await begin(path, program, first):
         print(f"Another has begun {path} meanwhile: it stays as it is, and is used")
-    record = await Record.open(path, program, is_read_only=options.watch or options.sheet)
-    return Opened(record, options.number or 1, options.matches or [*MATCHES])
+    return await Record.open(path, program, is_read_only=options.watch or options.sheet)
 
 
-async def _linked(options: argparse.Namespace) -> Opened:
-    """Opens the board of a link."""
+async def _linked(options: argparse.Namespace) -> "Remote":
+    """Opens the board of a link, which says whose it is."""
     try:
         from ucl_hall.remote.board import Remote
     except ModuleNotFoundError as error:
         raise Over(f"{error.name} is not installed; Debian has it in python3-aiohttp") from error
     remote = await Remote.open(options.record)
-    matches = [it for it in options.matches or remote.matches if it in remote.matches]
-    if len(matches) < len(options.matches or matches):
+    options.number, options.matches = remote.number, options.matches or remote.matches
+    if not {*options.matches} <= {*remote.matches}:
         await remote.close()
         raise Over(f"--matches: those of this link are {', '.join(map(str, remote.matches))}")
-    return Opened(remote, remote.number, matches, remote)
+    return remote
 
 
 def _is_link(record: str) -> bool:

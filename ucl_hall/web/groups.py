@@ -5,7 +5,7 @@ import operator
 import time
 from collections.abc import Iterable, Iterator, Mapping, Sequence
 
-from ucl_hall.engine.answers import Moment, Reply
+from ucl_hall.engine.answers import LeftOut, Mended, Moment, Reply
 from ucl_hall.engine.json_lines import line_of
 from ucl_hall.record.record import Record
 from ucl_hall.rows import MATCHES
@@ -119,7 +119,7 @@ class Group:
         self._screens.send(self.letter, reply.screen.line)
         if len(self.phones):
             for answer in (*reply.left_out, reply.answer):
-                if answer.line != reply.screen.line and b'"reply":"ok"' not in answer.line:
+                if isinstance(answer, LeftOut | Mended):
                     self.phones.send(str(answer.row), answer.line)
             self.phones.send("screen", reply.screen.line)
             self.phones.send("recent", self.recent())

@@ -12,10 +12,11 @@ import ipaddress
 import itertools
 import logging
 import ssl
-from collections.abc import AsyncIterator, Awaitable, Callable, Collection, Sequence
+from collections.abc import AsyncIterator, Collection, Sequence
 from urllib.parse import urlsplit
 
 from aiohttp import WSMsgType, web
+from aiohttp.typedefs import Handler
 
 from ucl_hall.engine.json_lines import line_of
 from ucl_hall.text import printable
@@ -46,7 +47,6 @@ LONGEST, PIECE = 1_024, 16_384
 SCREENS_OF_ONE, PHONES_OF_ONE, MOST_PHONES = 64, 8, 2_000
 # What who asks under a name that is not ours is told: a page of another host may have sent them.
 NO_NAME = "Open this by an address of the machine, or have it started with --url and this name.\n"
-Handler = Callable[[web.Request], Awaitable[web.StreamResponse]]
 
 
 class Server:
