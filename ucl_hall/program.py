@@ -92,11 +92,6 @@ def text_of(fault: BaseException | None) -> str:
     return str(fault) if isinstance(fault, Fault | OSError) else repr(fault)
 
 
-def live_program() -> str:
-    """The path of `ucl_live`. Raises what `program_named` raises."""
-    return program_named("ucl_live")
-
-
 def program_named(name: str) -> str:
     """The path of a program of ours; tests name another in its place, as by UCL_LIVE.
 

@@ -12,7 +12,7 @@ from typing import TYPE_CHECKING, Any
 
 from ucl_hall.engine.trial import Change
 from ucl_hall.faults import NotEntered, Over
-from ucl_hall.program import ending, live_program
+from ucl_hall.program import ending, program_named
 from ucl_hall.record.begin import begin
 from ucl_hall.record.places import exists, opened
 from ucl_hall.record.record import Record
@@ -111,7 +111,7 @@ def main() -> None:
         if _is_link(options.record):
             sys.exit(asyncio.run(_run(options, _linked(options))))
         first = _first_rows(options)
-        sys.exit(asyncio.run(_run(options, _opened(options, live_program(), first))))
+        sys.exit(asyncio.run(_run(options, _opened(options, first))))
 
 
 async def _run(options: argparse.Namespace, opening: "Coroutine[Any, Any, Record | Remote]") -> int:
@@ -142,9 +142,9 @@ async def _done(options: argparse.Namespace, board: "Record | Remote") -> int:
     return await enter_lines(Session(board, own, matches, display), options.edition or 0)
 
 
-async def _opened(options: argparse.Namespace, program: str, first: bytes | None) -> Record:
+async def _opened(options: argparse.Namespace, first: bytes | None) -> Record:
     """Opens the record, which begins with the first rows if there are any."""
-    path = options.record
+    path, program = options.record, program_named("ucl_live")
     if first is not None and not await begin(path, program, first):
         print(f"Another has begun {path} meanwhile: it stays as it is, and is used")
     return await Record.open(path, program, is_read_only=options.watch or options.sheet)
@@ -188,7 +188,7 @@ def _first_rows(options: argparse.Namespace) -> bytes | None:
         return None
     if not sys.stdin.isatty() or options.mend is not None or options.sheet:
         raise Over(f"there is no {path}; type ./ucl_reporter {path} at a terminal to begin it")
-    live_program()
+    program_named("ucl_live")  # before anything is asked
     return rows_by_questions()
 
 

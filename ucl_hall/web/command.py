@@ -10,8 +10,7 @@ from collections.abc import Mapping, Sequence
 from urllib.parse import urlsplit
 
 from ucl_hall.faults import BadArgument, Over
-from ucl_hall.program import ending, text_of, until_ended
-from ucl_hall.program import live_program, program_named
+from ucl_hall.program import ending, program_named, text_of, until_ended
 from ucl_hall.record import begin, places
 from ucl_hall.record.record import Record
 from ucl_hall.rows import GROUPS
@@ -106,7 +105,7 @@ async def serve(options: Options, first: Mapping[str, bytes]) -> int:
     of the groups that are meant, Over where the port is taken, and what `keys.held` and
     `Record.open` raise.
     """
-    program, groups = live_program(), list[Group]()
+    program, groups = program_named("ucl_live"), list[Group]()
     server = _server(options, groups, groups)
     async with contextlib.AsyncExitStack() as stack:
         opened = list[tuple[Record, Keys]]()
@@ -215,7 +214,7 @@ def main() -> None:
         if options.follow:
             sys.exit(asyncio.run(until_ended(mirror(options))))
         if not options.links:
-            live_program()  # before anything is asked
+            program_named("ucl_live")  # before anything is asked
             sys.exit(asyncio.run(until_ended(serve(options, first_rows(options)))))
         named = list[tuple[str, str]]()
         for path in options.records:

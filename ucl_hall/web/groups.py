@@ -102,15 +102,9 @@ class Group:
         return line_of("recent", events=told[:RECENT])
 
     def health(self) -> dict[str, object]:
-        """What whoever watches it is told."""
-        return {
-            "edition": self.moment.edition,
-            "version": self.moment.version,
-            "rows": self.moment.row,
-            "is_there": self.record.is_there,
-            "phones": {number: len(it.phones) for number, it in self.reporters.items()},
-            "fault": self.fault,
-        }
+        """What whoever watches it is told besides."""
+        phones = {number: len(it.phones) for number, it in self.reporters.items()}
+        return {"rows": self.moment.row, "phones": phones}
 
     def _tell(self, reply: Reply) -> None:
         """Sends what a row has changed."""

@@ -59,9 +59,8 @@ class MirroredGroup:
         return self._evenings.get(self.letter) or None
 
     def health(self) -> dict[str, object]:
-        """What whoever watches it is told."""
-        told = {"edition": self.moment.edition, "version": self.moment.version}
-        return {**told, "is_there": not self.silence, "silence": self.silence, "fault": self.fault}
+        """What whoever watches it is told besides."""
+        return {"silence": self.silence}
 
     def _note(self) -> None:
         """Notes that what is shown is the board's, if the last pulse says so, and no later one was

@@ -41,8 +41,8 @@ from ucl_hall.web.visitors import (
 
 # Seconds between pulses.
 PULSE = 1.0
-# The most bytes of a message, and the bytes of a page that are sent at once.
-LONGEST, PIECE = 1_024, 16_384
+# The most bytes of a message.
+LONGEST = 1_024
 # The most screens of an address, the most phones of a link, and of all links.
 SCREENS_OF_ONE, PHONES_OF_ONE, MOST_PHONES = 64, 8, 2_000
 # What who asks under a name that is not ours is told: a page of another host may have sent them.
@@ -69,7 +69,6 @@ class Server:
         self.notices = Notices()
         self._screens = Places(most, SCREENS_OF_ONE, newest_gives_way=True)
         self._phones = Places(MOST_PHONES, PHONES_OF_ONE)
-        self._files = {"/": Page("index.html", at), "/replay.jsonl": Page("replay.jsonl")}
         self._report = Page("report.html", at)
         self._hall, self._cut_off = b"", 0
         self._runner: web.AppRunner
@@ -89,8 +88,8 @@ class Server:
             return await handler(request)
 
         app = web.Application(middlewares=[named])
-        for path in self._files:
-            app.router.add_get(path, self._file)
+        app.router.add_get("/", Page("index.html", self._at).answer)
+        app.router.add_get("/replay.jsonl", Page("replay.jsonl").answer)
         app.router.add_get("/lines", self._lines)
         feed = Feed(self.groups, self.screens, self._screens, self._told)
         app.router.add_get("/feed", feed.answer, allow_head=False)
@@ -168,11 +167,8 @@ class Server:
         for group in self.groups:
             self.screens.send(group.letter, group.moment.line)
 
-    async def _file(self, request: web.Request) -> web.StreamResponse:
-        return await _sent(request, self._files[request.path])
-
     async def _health(self, request: web.Request) -> web.Response:
-        groups = {group.letter: group.health() for group in self.groups}
+        groups = {group.letter: _health_of(group) for group in self.groups}
         faults = [group.fault for group in self.groups if group.fault] + [self.fault]
         told = {
             "groups": groups,
@@ -190,7 +186,7 @@ class Server:
 
     async def _reporter_page(self, request: web.Request) -> web.StreamResponse:
         self._reporter(request)
-        return await _sent(request, self._report)
+        return await self._report.answer(request)
 
     def _reporter(self, request: web.Request) -> tuple[Group, Reporter]:
         """Whose key a request has. Raises that there is no such page where it is nobody's."""
@@ -314,17 +310,11 @@ async def _opened(
         yield stream, Screen(request.transport)
 
 
-async def _sent(request: web.Request, page: Page) -> web.StreamResponse:
-    """Sends a page in pieces, each once the one before is on its way: a slow reader costs little."""
-    headers = {"Content-Security-Policy": page.policy}
-    response = web.StreamResponse(headers=headers)
-    response.content_type, response.charset = page.kind, "utf-8"
-    response.content_length = len(page.body)
-    await response.prepare(request)
-    for at in range(0, len(page.body) if request.method == "GET" else 0, PIECE):
-        await response.write(page.body[at : at + PIECE])
-    await response.write_eof()
-    return response
+def _health_of(group: Shown) -> dict[str, object]:
+    """What whoever watches a group is told."""
+    moment, is_there = group.moment, not group.silence
+    told = {"edition": moment.edition, "version": moment.version, "is_there": is_there}
+    return {**told, **group.health(), "fault": group.fault}
 
 
 async def _head(_: web.Request, response: web.StreamResponse) -> None:

@@ -31,7 +31,7 @@ class Shown(Protocol):
         """The matches of the evening, where somebody has named them."""
 
     def health(self) -> dict[str, object]:
-        """What whoever watches it is told."""
+        """What whoever watches it is told besides its moment and fault."""
 
 
 def asked(request: web.Request, groups: Sequence[Shown]) -> list[Shown]:
