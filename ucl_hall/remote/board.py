@@ -52,7 +52,7 @@ class Remote:
         loop = asyncio.get_running_loop()
         # Whose link it is, and what stands, is known; and it can be followed no more.
         self._known: asyncio.Future[None] = loop.create_future()
-        self._over: asyncio.Future[None] = loop.create_future()
+        self.over: asyncio.Future[None] = loop.create_future()
         self._task = asyncio.create_task(self._run())
 
     @classmethod
@@ -81,10 +81,6 @@ class Remote:
     def moment(self) -> Moment:
         assert self._moment is not None
         return self._moment
-
-    @property
-    def over(self) -> asyncio.Future[None]:
-        return self._over
 
     def listen(self, listener: Callable[[Reply], None]) -> None:
         self._listeners.append(listener)
@@ -126,7 +122,7 @@ class Remote:
 
     async def _reach(self, rows: Sequence[Row], edition: int) -> None:
         """Waits for a moment that has these events: on a slow line an answer may overtake it."""
-        while self.moment.edition == edition and not self._over.done():
+        while self.moment.edition == edition and not self.over.done():
             if all(self.moment.match(row.match).number > row.expected for row in rows):
                 return
             self._grown.clear()
@@ -139,8 +135,8 @@ class Remote:
         try:
             await self._link.run()
         except Exception as fault:  # whatever it is, who waits has to know
-            self._over.set_exception(fault)
-            self._over.exception()
+            self.over.set_exception(fault)
+            self.over.exception()
             for sent in self._link.waiting:
                 sent.answer.set_exception(fault)
             self._grown.set()
@@ -153,16 +149,18 @@ class Remote:
                     self._name(said)
                 case "left-out" | "mended" | "screen":
                     self._take(line)
-                case "recent":
+                case "recent" if self._moment is not None:
                     self._take_events([_numbered(it) for it in _list(said, "events")])
         except NoAnswer:
             return
 
     def _name(self, said: Said) -> None:
         number, matches = said.get("number"), _list(said, "matches")
-        if number not in REPORTERS or not matches or any(it not in MATCHES for it in matches):
+        if type(number) is not int or number not in REPORTERS:
             raise NoAnswer("it names no reporter")
-        self.number, self.matches = int(str(number)), [it for it in MATCHES if it in matches]
+        if not matches or any(it not in MATCHES for it in matches):
+            raise NoAnswer("it names no matches")
+        self.number, self.matches = number, [it for it in MATCHES if it in matches]
         # The server may have been started anew, with other matches of this reporter.
         for sent in self._link.waiting:
             match = sent.first.get("match", self.matches[0])
