@@ -56,16 +56,6 @@ WAYS = {"tap": Way.FIRST, "again": Way.AGAIN, "ask": Way.ASKED}
 
 
 @dataclass(frozen=True, slots=True)
-class Tap:
-    """Events that were tapped, the edition on the screen, and whether this was sent before."""
-
-    id: str
-    edition: int
-    rows: tuple[Row, ...]
-    way: Way
-
-
-@dataclass(frozen=True, slots=True)
 class Asked:
     """It is asked which events stand."""
 
@@ -83,8 +73,9 @@ class Answer:
     fault: str = ""
 
 
-def message_of(text: str, matches: Sequence[int]) -> Tap | Asked:
-    """What a phone sent, of a reporter of these matches.
+def message_of(text: str, matches: Sequence[int]) -> Events | Asked:
+    """What a phone sent, of a reporter of these matches; events as those of reporter 0, since a
+    message does not say whose it is.
 
     Raises ValueError where it is nothing.
     """
@@ -105,7 +96,7 @@ def message_of(text: str, matches: Sequence[int]) -> Tap | Asked:
     if expected + len(events) > LAST_NUMBER:
         raise ValueError("a match has no such number")
     rows = tuple(Row(match, expected + place, it) for place, it in enumerate(events))
-    return Tap(_id(said[ways[0]]), edition, rows, WAYS[ways[0]])
+    return Events(0, rows, edition, WAYS[ways[0]], _id(said[ways[0]]))
 
 
 class Reporter:
@@ -121,12 +112,12 @@ class Reporter:
         self.events = Allowance(MOST_EVENTS, MOST_MESSAGES)
         self._board = board
 
-    def may(self, message: Tap | Asked) -> bool:
+    def may(self, message: Events | Asked) -> bool:
         """Whether its phones may send this now. Who asks for all events is sent many."""
         cost = MOST_MESSAGES if isinstance(message, Asked) else len(message.rows)
         return self.events.takes(cost)
 
-    async def reply(self, message: Tap | Asked) -> bytes:
+    async def reply(self, message: Events | Asked) -> bytes:
         """The line that a phone is sent for what it sent."""
         if isinstance(message, Asked):
             await self._board.ready()
@@ -143,12 +134,11 @@ class Reporter:
             outcomes=[_members_of(it) for it in answer.outcomes],
         )
 
-    async def _answer(self, tap: Tap) -> Answer:
+    async def _answer(self, tap: Events) -> Answer:
         """Enters a tap, or says what became of it; the same to its id from then on. One that has
         not come by the time that it is asked about is never entered."""
         try:
-            sending = Events(self.number, tap.rows, tap.edition, tap.way, tap.id)
-            outcomes = await self._board.enter(sending)
+            outcomes = await self._board.enter(replace(tap, reporter=self.number))
         except Dropped:
             return _refusal("dropped")
         except Lost:
