@@ -10,7 +10,7 @@ from collections.abc import Mapping, Sequence
 from urllib.parse import urlsplit
 
 from ucl_hall.faults import BadArgument, Over
-from ucl_hall.program import ending, program_named, text_of, until_ended
+from ucl_hall.program import ending, program_named, until_ended
 from ucl_hall.record import begin, places
 from ucl_hall.record.record import Record
 from ucl_hall.rows import GROUPS
@@ -23,7 +23,7 @@ from ucl_hall.web.mirror import Mirror
 from ucl_hall.web.options import Options, options_of
 from ucl_hall.web.server import Server
 from ucl_hall.web.shared_keys import Keys, keys_held, keys_of
-from ucl_hall.web.shown import Shown
+from ucl_hall.web.shown import Shown, watch
 from ucl_hall.web.source import follow
 
 # Files that are open beside those of screens: records, pipes, connections that have just begun.
@@ -121,7 +121,7 @@ async def serve(options: Options, first: Mapping[str, bytes]) -> int:
         _check_groups(options, [record.moment.title.group for record, _ in opened])
         for record, keys in opened:
             groups.append(await _group(options, record, keys, server.screens))
-            _watch(groups[-1], record.over)
+            watch(groups[-1], record.over)
         await _listen(server, options)
         stack.push_async_callback(server.close)
         tell(options, groups)
@@ -169,17 +169,6 @@ def _check_groups(options: Options, groups: Sequence[str]) -> None:
         raise BadArgument(f"two records are of group {twice[0]}")
     if strangers:
         raise BadArgument(f"no record is of group {strangers[0]}")
-
-
-def _watch(group: Group, over: "asyncio.Future[None]") -> None:
-    """Notes and tells the fault by which a group goes on no more."""
-
-    def fail(_: object) -> None:
-        if not over.cancelled() and not group.fault:
-            group.fault = text_of(over.exception())
-            warn(f"ucl_serve: group {group.letter}: {group.fault}")
-
-    over.add_done_callback(fail)
 
 
 async def _listen(server: Server, options: Options) -> None:

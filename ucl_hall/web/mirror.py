@@ -5,17 +5,15 @@ moments, whichever of several sources was first. No line of screens says that a 
 pulses do, and each says at which moment the board is.
 """
 
-import asyncio
 import time
 from collections.abc import Mapping
 
 from ucl_hall.engine.answers import Moment, Reply
 from ucl_hall.engine.follow import Follow
-from ucl_hall.program import text_of
 from ucl_hall.rows import GROUPS, MATCHES
-from ucl_hall.text import members_of, printable, warn
+from ucl_hall.text import members_of, printable
 from ucl_hall.web.server import Server
-from ucl_hall.web.shown import Shown
+from ucl_hall.web.shown import Shown, watch
 
 # How long a pulse holds, in seconds.
 HOLDS = 3.0
@@ -35,7 +33,7 @@ class MirroredGroup:
         # When what is shown was last known to be the board's, and when this began.
         self._known_at, self._begun_at = 0.0, time.monotonic()
         follow.listen(lambda _: self._note())
-        follow.over.add_done_callback(self._end)
+        watch(self, follow.over)
 
     @property
     def moment(self) -> Moment:
@@ -67,11 +65,6 @@ class MirroredGroup:
         ever told of: a line may be lost, and a source may be behind."""
         if self.follow.has_shown and self._pulse == self._latest == self.moment.age:
             self._known_at = self._pulsed_at
-
-    def _end(self, over: "asyncio.Future[None]") -> None:
-        if not over.cancelled():
-            self.fault = text_of(over.exception())
-            warn(f"ucl_serve: group {self.letter}: {self.fault}")
 
 
 class Mirror:

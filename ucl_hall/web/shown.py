@@ -1,23 +1,25 @@
 """A group that is shown, wherever its board is: on this machine, or behind another server."""
 
+import asyncio
 from collections.abc import Sequence
 from typing import Protocol
 
 from aiohttp import web
 
 from ucl_hall.engine.answers import Moment
+from ucl_hall.program import text_of
+from ucl_hall.text import warn
 
 
 class Shown(Protocol):
     """A group that is shown to whoever looks on."""
 
+    # By what its board can be followed no more; empty where it can.
+    fault: str
+
     @property
     def letter(self) -> str:
         """Its letter."""
-
-    @property
-    def fault(self) -> str:
-        """By what its board can be followed no more; empty where it can."""
 
     @property
     def moment(self) -> Moment:
@@ -32,6 +34,17 @@ class Shown(Protocol):
 
     def health(self) -> dict[str, object]:
         """What whoever watches it is told besides its moment and fault."""
+
+
+def watch(group: Shown, over: asyncio.Future[None]) -> None:
+    """Notes and tells the fault by which a group can be followed no more, once there is one."""
+
+    def fail(_: object) -> None:
+        if not over.cancelled() and not group.fault:
+            group.fault = text_of(over.exception())
+            warn(f"ucl_serve: group {group.letter}: {group.fault}")
+
+    over.add_done_callback(fail)
 
 
 def asked(request: web.Request, groups: Sequence[Shown]) -> list[Shown]:
