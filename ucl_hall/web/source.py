@@ -19,10 +19,6 @@ PIECE = 1 << 16
 INPUT = "-"
 
 
-class _NoFeed(Exception):
-    """An address has something else."""
-
-
 class Lines:
     """Bytes as they come, cut into lines."""
 
@@ -56,23 +52,22 @@ async def _follow_feed(url: str, take: Take) -> None:
         while True:
             try:
                 async with session.get(url, headers={"Accept-Encoding": "identity"}) as answer:
-                    if answer.status != 200 or answer.content_type != KIND:
-                        raise _NoFeed(f"it answers {answer.status}, and no feed")
-                    if told:
-                        warn(f"ucl_serve: {url}: it is there again")
-                        told = False
-                    lines = Lines(take)
-                    async for piece in answer.content.iter_any():
-                        await lines.add(piece)
-                why = "it has ended"
-            except (_NoFeed, aiohttp.ClientSSLError) as error:
+                    if answer.status == 200 and answer.content_type == KIND:
+                        if told:
+                            warn(f"ucl_serve: {url}: it is there again")
+                            told = False
+                        lines = Lines(take)
+                        async for piece in answer.content.iter_any():
+                            await lines.add(piece)
+                        why = "it has ended"
+                    else:
+                        why = f"it answers {answer.status}, and no feed"
+            except aiohttp.ClientSSLError as error:
                 why = str(error)
             except (aiohttp.ClientConnectionError, OSError):
                 why = "no connection"
             except aiohttp.ClientError:
                 why = "it has ended"
-            except asyncio.TimeoutError:
-                why = "nothing comes"
             if not told:
                 warn(f"ucl_serve: {url}: {why}; it is tried again until it is there")
                 told = True
