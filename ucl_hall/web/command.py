@@ -23,7 +23,7 @@ from ucl_hall.web.mirror import Mirror
 from ucl_hall.web.options import Options, options_of
 from ucl_hall.web.server import Server
 from ucl_hall.web.shared_keys import Keys, keys_held, keys_of
-from ucl_hall.web.shown import Shown, watch
+from ucl_hall.web.shown import Shown
 from ucl_hall.web.source import follow
 
 # Files that are open beside those of screens: records, pipes, connections that have just begun.
@@ -121,7 +121,6 @@ async def serve(options: Options, first: Mapping[str, bytes]) -> int:
         _check_groups(options, [record.moment.title.group for record, _ in opened])
         for record, keys in opened:
             groups.append(await _group(options, record, keys, server.screens))
-            watch(groups[-1], record.over)
         await _listen(server, options)
         stack.push_async_callback(server.close)
         tell(options, groups)

@@ -5,19 +5,20 @@ import operator
 import time
 from collections.abc import Iterable, Iterator, Mapping, Sequence
 
-from ucl_hall.engine.answers import LeftOut, Mended, Moment, Reply
+from ucl_hall.engine.answers import LeftOut, Mended, Reply
 from ucl_hall.engine.json_lines import line_of
 from ucl_hall.record.record import Record
 from ucl_hall.rows import MATCHES
 from ucl_hall.web.connections import Screen, Screens
 from ucl_hall.web.keys import is_key
 from ucl_hall.web.phones import Reporter, events_told
+from ucl_hall.web.shown import Shown
 
 # How many events a phone lists.
 RECENT = 10
 
 
-class Group:
+class Group(Shown):
     """The board of a record, with those who look on. Screens may be of several groups."""
 
     def __init__(
@@ -29,11 +30,8 @@ class Group:
         evening: Sequence[int] | None = None,
         at: Sequence[str] = (),
     ) -> None:
-        self.record = record
-        self.keys = keys
-        self.letter = record.moment.title.group
-        self.phones = Screens()
-        self.fault = ""
+        super().__init__(record.moment.title.group, record)
+        self.record, self.keys, self.phones = record, keys, Screens()
         # The addresses of all who serve it.
         self._at = at
         self._screens, self._evening = screens, evening
@@ -44,11 +42,6 @@ class Group:
         }
         self._known_at = time.monotonic()
         record.listen(self._tell)
-
-    @property
-    def moment(self) -> Moment:
-        """The moment that stands."""
-        return self.record.moment
 
     @property
     def silence(self) -> int:
@@ -101,8 +94,7 @@ class Group:
         told.sort(key=operator.itemgetter("row"), reverse=True)
         return line_of("recent", events=told[:RECENT])
 
-    def health(self) -> dict[str, object]:
-        """What whoever watches it is told besides."""
+    def more(self) -> dict[str, object]:
         phones = {number: len(it.phones) for number, it in self.reporters.items()}
         return {"rows": self.moment.row, "phones": phones}
 

@@ -8,12 +8,12 @@ pulses do, and each says at which moment the board is.
 import time
 from collections.abc import Mapping
 
-from ucl_hall.engine.answers import Moment, Reply
+from ucl_hall.engine.answers import Reply
 from ucl_hall.engine.follow import Follow
 from ucl_hall.rows import GROUPS, MATCHES
 from ucl_hall.text import members_of, printable
 from ucl_hall.web.server import Server
-from ucl_hall.web.shown import Shown, watch
+from ucl_hall.web.shown import Shown
 
 # How long a pulse holds, in seconds.
 HOLDS = 3.0
@@ -21,24 +21,19 @@ Said = Mapping[str, object]
 Age = tuple[int, int]
 
 
-class MirroredGroup:
+class MirroredGroup(Shown):
     """A group of which other servers tell. `evenings` has the matches of each group's, by whatever
     they say last."""
 
     def __init__(self, letter: str, follow: Follow, evenings: Mapping[str, list[int]]) -> None:
-        self.letter, self.follow, self.fault, self._evenings = letter, follow, "", evenings
+        super().__init__(letter, follow)
+        self.follow, self._evenings = follow, evenings
         # The last pulse: edition and version of the board, and when it came; and the latest of all.
         self._pulse: Age = (-1, -1)
         self._latest, self._pulsed_at = self._pulse, 0.0
         # When what is shown was last known to be the board's, and when this began.
         self._known_at, self._begun_at = 0.0, time.monotonic()
         follow.listen(lambda _: self._note())
-        watch(self, follow.over)
-
-    @property
-    def moment(self) -> Moment:
-        """The newest moment of the lines that came."""
-        return self.follow.moment
 
     @property
     def silence(self) -> int:
@@ -56,8 +51,7 @@ class MirroredGroup:
         """The matches of the evening, where the other server names them."""
         return self._evenings.get(self.letter) or None
 
-    def health(self) -> dict[str, object]:
-        """What whoever watches it is told besides."""
+    def more(self) -> dict[str, object]:
         return {"silence": self.silence}
 
     def _note(self) -> None:

@@ -168,7 +168,7 @@ class Server:
             self.screens.send(group.letter, group.moment.line)
 
     async def _health(self, request: web.Request) -> web.Response:
-        groups = {group.letter: _health_of(group) for group in self.groups}
+        groups = {group.letter: group.health() for group in self.groups}
         faults = [group.fault for group in self.groups if group.fault] + [self.fault]
         told = {
             "groups": groups,
@@ -308,13 +308,6 @@ async def _opened(
         await stream.prepare(request)
         assert isinstance(request.transport, asyncio.WriteTransport)
         yield stream, Screen(request.transport)
-
-
-def _health_of(group: Shown) -> dict[str, object]:
-    """What whoever watches a group is told."""
-    moment, is_there = group.moment, not group.silence
-    told = {"edition": moment.edition, "version": moment.version, "is_there": is_there}
-    return {**told, **group.health(), "fault": group.fault}
 
 
 async def _head(_: web.Request, response: web.StreamResponse) -> None:
