@@ -26,9 +26,7 @@ SILENCE, NEXT, PAUSE = 5.0, 1.75, 0.5
 LONGEST_LINE, LONGEST, MOST_EVENTS = 8 << 20, 1_024, 15
 NO_CONNECTION = "No connection: what you enter is sent once it is there again"
 _SERVER = re.compile(r"https?://[^/\s]+/?")
-
-
-# What the link is told to be: by the status of a server, and where its certificate is none.
+# Why a server does not take a link: by its status, and where its certificate is not trusted.
 REFUSED = {
     403: kind_of(Over, "{}: the server has another name: give the link as it prints it"),
     404: kind_of(Over, "{} is the link of no reporter there: ask for a new one"),
