@@ -106,7 +106,7 @@ async def serve(options: Options, first: Mapping[str, bytes]) -> int:
     `Record.open` raise.
     """
     program, groups = program_named("ucl_live"), list[Group]()
-    server = _server(options, groups, groups)
+    server = _server(options, groups)
     async with contextlib.AsyncExitStack() as stack:
         opened = list[tuple[Record, Keys]]()
         for path in options.records:
@@ -128,9 +128,9 @@ async def serve(options: Options, first: Mapping[str, bytes]) -> int:
     return 1
 
 
-def _server(options: Options, groups: Sequence[Shown], reported: Sequence[Group]) -> Server:
+def _server(options: Options, groups: Sequence[Shown]) -> Server:
     most = min(options.most_screens, files_for_screens())
-    return Server(groups, reported, options.title, most, names_of(options), options.at)
+    return Server(groups, options.title, most, names_of(options), options.at)
 
 
 async def _group(options: Options, record: Record, keys: Keys, screens: Screens) -> Group:
@@ -146,7 +146,7 @@ async def _group(options: Options, record: Record, keys: Keys, screens: Screens)
 async def mirror(options: Options) -> int:
     """Serves what other servers show, until a signal."""
     groups = list[Shown]()
-    server = _server(options, groups, ())
+    server = _server(options, groups)
     shown = Mirror(server, groups, program_named("ucl_follow"))
     async with contextlib.AsyncExitStack() as stack:
         stack.push_async_callback(shown.close)

@@ -50,20 +50,18 @@ NO_NAME = "Open this by an address of the machine, or have it started with --url
 
 
 class Server:
-    """What is served: groups, which may come later, those of them that have reporters, and those
-    who look on. `names` has those of this server, and `at` where all who serve them are."""
+    """What is served: groups, which may come later, and those who look on. `names` has those of
+    this server, and `at` where all who serve them are."""
 
     def __init__(
         self,
         groups: Sequence[Shown],
-        reported: Sequence[Group],
         title: str,
         most: int,
         names: Collection[str] = (),
         at: Sequence[str] = (),
     ) -> None:
-        self.groups, self.reported, self.title = groups, reported, title
-        self.screens = Screens()
+        self.groups, self.title, self.screens = groups, title, Screens()
         self.names = {name.lower() for name in names}
         self.fault, self._at = "", at
         self.notices = Notices()
@@ -119,9 +117,14 @@ class Server:
         """Listens no more, and ends all connections."""
         self._visitors.close()
         self._pulsing.cancel()
-        for screens in (self.screens, *(group.phones for group in self.reported)):
+        for screens in (self.screens, *(group.phones for group in self._reported)):
             screens.abort()
         await self._runner.cleanup()
+
+    @property
+    def _reported(self) -> list[Group]:
+        """The groups that have reporters here."""
+        return [group for group in self.groups if isinstance(group, Group)]
 
     def _note(self, _: asyncio.AbstractEventLoop, about: dict[str, object]) -> None:
         """Keeps what went wrong outside any request, for who asks after it."""
@@ -134,7 +137,7 @@ class Server:
             line = self._pulse_line()
             if count % 2 == 0:
                 self._tell_screens(line)
-            for group in self.reported:
+            for group in self._reported:
                 if not group.record.over.done():
                     group.phones.send("pulse", line)
             await asyncio.sleep(PULSE / 2)
@@ -173,7 +176,7 @@ class Server:
         told = {
             "groups": groups,
             "screens": len(self.screens),
-            "reporters": sum(len(group.phones) for group in self.reported),
+            "reporters": sum(len(group.phones) for group in self._reported),
             "left_out": self.screens.left_out,
             "cut_off": self.notices.all_cut_off,
             "fault": faults[0],
@@ -191,7 +194,7 @@ class Server:
     def _reporter(self, request: web.Request) -> tuple[Group, Reporter]:
         """Whose key a request has. Raises that there is no such page where it is nobody's."""
         found = None
-        for group in self.reported:
+        for group in self._reported:
             reporter = group.reporter_of(request.match_info["key"])
             found = found if reporter is None else (group, reporter)
         if found is None:
