@@ -754,8 +754,13 @@ def pair(nodes: Nodes, live: str, folder: pathlib.Path, *more: str) -> tuple[lis
     servers = [Server(port, [place, *at, *more], live, folder) for port in ports]
     for port in ports:
         assert until(lambda: is_reached(port), 30)
-    link = command([TOP / "ucl_serve", "--links", place, "--url", "http://x"])
-    return servers, link.output.strip().partition("http://x")[2]
+    return servers, links_of(place)[0]
+
+
+def links_of(place: str) -> list[str]:
+    """The paths of the pages of a record's reporters, by their numbers."""
+    ran = command([TOP / "ucl_serve", "--links", place, "--url", "http://x"])
+    return [line.partition("http://x")[2] for line in ran.output.splitlines()]
 
 
 def test_one_address_by_haproxy(nodes: Nodes, live: str, tmp_path: pathlib.Path) -> None:
@@ -809,25 +814,31 @@ def both(servers: Sequence[Server]) -> Iterator[None]:
             server.process.wait()
 
 
-def test_links_end_at_each_server(nodes: Nodes, live: str, tmp_path: pathlib.Path) -> None:
-    """Once one is started with new keys the phones of the other are gone too, and who has the new
-    link is taken there."""
-    (first, second), path = pair(nodes, live, tmp_path)
+@pytest.mark.parametrize("words, is_kept", [(["--new-keys"], False), (["--revoke", "1"], True)])
+def test_links_end_at_each_server(
+    nodes: Nodes, live: str, tmp_path: pathlib.Path, words: list[str], is_kept: bool
+) -> None:
+    """Once one is started with new keys, or with a new one of the first of two reporters, the
+    phones of the other are gone too, and who has a link that holds is taken at both."""
+    (first, second), _ = pair(nodes, live, tmp_path, "--reporter", "1", "--reporter", "2")
     with both([first, second]):
-        phone = Socket(second.port, f"{path}/taps")
+        old = links_of(first.words[0])
+        phone = Socket(second.port, f"{old[0]}/taps")
         assert phone.until(
             "reporter", at=[f"http://127.0.0.1:{it.port}/" for it in (first, second)]
         )
         first.signal(signal.SIGKILL)
-        first.words.append("--new-keys")
+        first.words += words
         first.process = first.started()
         assert phone.is_closed()
-        links = command([TOP / "ucl_serve", "--links", first.words[0], "--url", "http://x"])
-        new = links.output.strip().partition("http://x")[2]
-        assert new != path and Socket(second.port, f"{path}/taps").status == 404
+        new = links_of(first.words[0])
+        assert [path in old for path in new] == [False, is_kept]
         assert until(lambda: is_reached(first.port), 30)
         for server in first, second:
-            assert Socket(server.port, f"{new}/taps").until("recent")
+            for path in {*old} - {*new}:
+                assert Socket(server.port, f"{path}/taps").status == 404
+            for path in new:
+                assert Socket(server.port, f"{path}/taps").until("recent")
         assert Socket(second.port, "/lines", f"http://127.0.0.1:{first.port}").status == 101
         assert Socket(second.port, "/lines", "http://127.0.0.1:1").status == 403
 
@@ -871,3 +882,31 @@ def test_pages_go_to_the_next_server(
         time.sleep(1)
         rows = rows_of(nodes, first.words[0])
         assert len(rows) == 7 and rows[6].endswith(b" 1,1,1,goal-home")
+
+
+@pytest.mark.parametrize("end", [signal.SIGKILL, signal.SIGSTOP])
+def test_a_terminal_goes_to_the_next_server(
+    nodes: Nodes, live: str, tmp_path: pathlib.Path, end: signal.Signals
+) -> None:
+    """By the link of one; a line without an answer goes in by itself, once."""
+    (first, second), path = pair(nodes, live, tmp_path)
+    with both([first, second]):
+        words = [TOP / "ucl_reporter", f"http://127.0.0.1:{first.port}{path}"]
+        with Started(words, cwd=tmp_path) as far:
+            far.write("1 goal home\n")
+            assert far.lines().startswith("1 goal home             entered, row 7: Bravo 1-0")
+            first.signal(signal.SIGSTOP)
+            far.write("1 goal home\n")
+            first.signal(end)
+            assert far.lines().startswith("1 goal home             entered, row 8: Bravo 2-0")
+            first.signal(signal.SIGCONT if end is signal.SIGSTOP else signal.SIGKILL)
+            far.write("1 goal away\n")
+            assert far.lines().startswith("1 goal away             entered, row 9: Bravo 2-1")
+            assert far.end().status == 0
+        rows = [row.partition(b" ")[2] for row in rows_of(nodes, first.words[0])]
+        assert rows[5:] == [
+            b"1,1,0,kickoff",
+            b"1,1,1,goal-home",
+            b"1,1,2,goal-home",
+            b"1,1,3,goal-away",
+        ]

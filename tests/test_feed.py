@@ -232,7 +232,7 @@ def test_the_page_s_lines_through_a_broker(hall: Halls, broker: int, follow: str
 def test_the_page_s_lines_of_curl(hall: Halls) -> None:
     """Each of the three as it stands there; the feed goes on until it is ended."""
     needs("curl")
-    section = (TOP / "docs/OPERATE.md").read_text().split("### A feed for the desk")[1]
+    section = (TOP / "docs/OPERATE.md").read_text().split("### A feed for a newsroom")[1]
     lines = re.findall("^    (curl .*)$", section, re.M)[:3]
     one = hall("--reporter", "1")
     feed, text, said = [it.replace("192.168.1.5:8080", f"127.0.0.1:{one.port}") for it in lines]

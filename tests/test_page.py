@@ -626,6 +626,26 @@ def test_for_how_long_there_is_no_signal(sheet):
 
 
 @pytest.mark.quick
+def test_a_wall_says_of_each_group_for_how_long_there_is_no_signal(sheet):
+    """In its head, which is as high as before; at no size are the words there without the seconds."""
+    heights = "return [...document.querySelectorAll('header')].map((it) => it.offsetHeight)"
+    # What CSS adds is no text of the page, so it is known by the room that it takes on its line.
+    told = """return [...document.querySelectorAll('.signal')].map((it) => {
+      const text = document.createRange();
+      text.selectNodeContents(it);
+      return it.scrollHeight <= it.clientHeight + 1 && where(it).width > 1.5 * where(text).width;
+    })"""
+    sheet.open("wall")
+    for *_, name in sheet.looks():
+        sheet.run("ahead = 0")
+        sheet.take(*(moments[15].line() for moments in SEASON.values()))
+        before = sheet.run(heights)
+        sheet.run("ahead = 120; tell()")
+        assert sheet.run(told) == [True] * 8, name
+        assert sheet.run(heights) == before and sheet.run("return look().faults") == [], name
+
+
+@pytest.mark.quick
 def test_what_the_server_has(sheet):
     """A title; the matches of the evening, also those to come; one group, or a wall of several, unless one is asked for."""
     hall = lambda groups, tonight={}: HALL % ("Finals", groups, json.dumps(tonight))

@@ -4,6 +4,7 @@ It has the same prompt and the same answers, through lost connections and kills.
 """
 
 import asyncio
+import contextlib
 import json
 import os
 import random
@@ -11,7 +12,7 @@ import re
 import signal
 import threading
 import time
-from collections.abc import Callable, Iterator
+from collections.abc import AsyncIterator, Awaitable, Callable, Iterator
 from typing import Any
 
 import model
@@ -22,7 +23,7 @@ from feeds import until
 from terminals import Terminal
 from test_serve import hall as hall
 
-from ucl_hall.faults import Over
+from ucl_hall.faults import NotEntered, Over
 from ucl_hall.record.sending import Events
 from ucl_hall.remote.board import Remote
 from ucl_hall.rows import Row
@@ -328,7 +329,7 @@ def test_messages_that_are_none(hall: Halls, said: dict[str, object]) -> None:
     assert phone.is_closed() and one.rows() == []
 
 
-# ---- a server that says anything
+# ---- servers that say anything
 
 
 HOSTILE = [
@@ -337,7 +338,13 @@ HOSTILE = [
     "[" * 4_000,
     '{"reply":"screen"}',
     '{"reply":"reporter","number":0,"matches":[1]}',
+    '{"reply":"reporter","number":true,"matches":[1]}',
+    '{"reply":"reporter","number":1.0,"matches":[1]}',
     '{"reply":"reporter","number":1,"matches":[13]}',
+    '{"reply":"reporter","number":1,"matches":[1],"at":7}',
+    '{"reply":"reporter","number":1,"matches":[1],"at":["x",7,"http://[/","http://x:y/","ftp://x/"]}',
+    '{"reply":"pulse","groups":7}',
+    '{"reply":"recent","events":[]}',
     '{"reply":"recent","events":[{"row":1}]}',
     '{"reply":"recent","events":7}',
     '{"reply":"mended","row":1}',
@@ -352,50 +359,76 @@ ANSWERS: list[dict[str, object]] = [
     {"name": "dropped", "edition": "x"},
     {"name": "not-entered", "fault": "\u001b[2J"},
 ]
+KICKOFF = Events(1, (Row(1, 0, "kickoff"),), 0)
+
+
+def greeting(**more: object) -> list[str]:
+    """What a server says first."""
+    screen = model.Session(["--format", "json"]).of(model.CLUBS + "screen,,,\n")[1].strip()
+    named = {"reply": "reporter", "number": 1, "matches": [1], "group": "A", **more}
+    return [json.dumps(named), screen, '{"reply":"recent","events":[]}']
+
+
+def answer(id: str, **members: object) -> str:
+    """What it answers to a message."""
+    return json.dumps({"reply": "answer", "id": id, **members})
+
+
+@contextlib.asynccontextmanager
+async def serving(
+    port: int, taps: Callable[[web.Request], Awaitable[web.StreamResponse]]
+) -> AsyncIterator[str]:
+    """A server of a link. Gives the link."""
+    app = web.Application()
+    app.router.add_get("/report/key/taps", taps)
+    runner = web.AppRunner(app)
+    await runner.setup()
+    await web.TCPSite(runner, "127.0.0.1", port, shutdown_timeout=0.1).start()
+    try:
+        yield f"http://127.0.0.1:{port}/report/key"
+    finally:
+        await runner.cleanup()
+
+
+async def connected(request: web.Request, *lines: str) -> web.WebSocketResponse:
+    """The WebSocket of a request, which is sent these lines."""
+    socket = web.WebSocketResponse(timeout=0.1)
+    await socket.prepare(request)
+    for line in lines:
+        await socket.send_str(line)
+    return socket
 
 
 def test_a_server_that_says_anything() -> None:
     """Lines that are none change nothing, and an answer that is none is that nobody knows."""
-    port = free_port()
-    screen = model.Session(["--format", "json"]).of(model.CLUBS + "screen,,,\n")[1].strip()
-    greeting = ['{"reply":"reporter","number":1,"matches":[1],"group":"A"}', screen]
     answers = list(ANSWERS)
 
     async def taps(request: web.Request) -> web.WebSocketResponse:
-        socket = web.WebSocketResponse()
-        await socket.prepare(request)
-        for line in [*HOSTILE, *greeting, '{"reply":"recent","events":[]}', *HOSTILE]:
-            await socket.send_str(line)
+        socket = await connected(request, *HOSTILE, *greeting(), *HOSTILE)
         async for message in socket:
-            id = json.loads(message.data)["tap"]
-            await socket.send_str(json.dumps({"reply": "answer", "id": id, **answers.pop(0)}))
+            await socket.send_str(answer(json.loads(message.data)["tap"], **answers.pop(0)))
         return socket
 
     async def work() -> None:
-        app = web.Application()
-        app.router.add_get("/report/key/taps", taps)
-        runner = web.AppRunner(app)
-        await runner.setup()
-        await web.TCPSite(runner, "127.0.0.1", port).start()
-        remote = await Remote.open(f"http://127.0.0.1:{port}/report/key")
-        assert (remote.number, remote.matches, remote.moment.version) == (1, [1], 0)
-        told = []
-        for _ in ANSWERS:
-            try:
-                await remote.enter(Events(1, (Row(1, 0, "kickoff"),), 0))
-            except Exception as fault:
-                told.append(str(fault))
-        maybe = "it may be in the record: look at the match before you type again"
-        assert told == [
-            "None",
-            "None",
-            f"the server is of another version: {maybe}",
-            f"the server is of another version: {maybe}",
-            "None",
-            "?[2J",
-        ]
-        await remote.close()
-        await runner.cleanup()
+        async with serving(free_port(), taps) as link:
+            remote = await Remote.open(link)
+            assert (remote.number, remote.matches, remote.moment.version) == (1, [1], 0)
+            told = []
+            for _ in ANSWERS:
+                try:
+                    await remote.enter(Events(1, KICKOFF.rows, 0))
+                except Exception as fault:
+                    told.append(str(fault))
+            maybe = "it may be in the record: look at the match before you type again"
+            assert told == [
+                "None",
+                "None",
+                f"the server is of another version: {maybe}",
+                f"the server is of another version: {maybe}",
+                "None",
+                "?[2J",
+            ]
+            await remote.close()
 
     asyncio.run(work())
 
@@ -409,19 +442,81 @@ def test_a_server_that_says_anything() -> None:
 )
 def test_a_server_that_refuses_the_link(status: int, told: str) -> None:
     """The program ends, and says what to do."""
-    link = f"http://127.0.0.1:{free_port()}/report/key"
 
     async def taps(_: web.Request) -> web.Response:
         return web.Response(status=status)
 
     async def work() -> None:
-        app = web.Application()
-        app.router.add_get("/report/key/taps", taps)
-        runner = web.AppRunner(app)
-        await runner.setup()
-        await web.TCPSite(runner, "127.0.0.1", int(link.split(":")[2].split("/")[0])).start()
-        with pytest.raises(Over, match=re.escape(link + told)):
-            await Remote.open(link)
-        await runner.cleanup()
+        async with serving(free_port(), taps) as link:
+            with pytest.raises(Over, match=re.escape(link + told)):
+                await Remote.open(link)
 
     asyncio.run(work())
+
+
+# ---- several servers
+
+
+@pytest.mark.parametrize("resends, name", [(True, "tap"), (False, "again")])
+@pytest.mark.parametrize("groups", [None, "B"])
+def test_a_link_goes_to_the_next_server(resends: bool, name: str, groups: str | None) -> None:
+    """Where one says nothing, or hears of other boards alone. What has no answer is sent there by
+    the same id: as it was, where the servers keep ids for good, and else as what was sent before.
+    """
+    ports, sent = [free_port(), free_port()], list[dict[str, object]]()
+    at = [f"http://127.0.0.1:{port}" for port in ports]
+
+    async def pulse(socket: web.WebSocketResponse, told: str) -> None:
+        with contextlib.suppress(ConnectionError):
+            while True:
+                await socket.send_str(json.dumps({"reply": "pulse", "groups": told}))
+                await asyncio.sleep(0.1)
+
+    async def taps(request: web.Request) -> web.WebSocketResponse:
+        socket = await connected(request, *greeting(at=at, resends=resends))
+        is_first = request.url.port == ports[0]
+        told = groups if is_first else "AB"
+        pulsing = asyncio.create_task(pulse(socket, told)) if told else None
+        async for message in socket:
+            sent.append(json.loads(message.data))
+            if not is_first:
+                fault = {"name": "not-entered", "fault": "it is the second"}
+                await socket.send_str(answer(str(sent[-1][name]), **fault))
+        if pulsing:
+            pulsing.cancel()
+        return socket
+
+    async def work() -> None:
+        async with serving(ports[0], taps) as link, serving(ports[1], taps):
+            remote = await Remote.open(link)
+            with pytest.raises(NotEntered, match="it is the second"):
+                await remote.enter(KICKOFF)
+            await remote.close()
+
+    asyncio.run(work())
+    said = {"edition": 0, "match": 1, "expected": 0, "events": ["kickoff"]}
+    assert sent == [{"tap": KICKOFF.id, **said}, {name: KICKOFF.id, **said}]
+
+
+def test_another_server_that_refuses_the_link() -> None:
+    """It is asked once, and the terminal goes on where the link is taken; it ends once it is taken
+    nowhere."""
+    ports, asked = [free_port(), free_port()], list[int]()
+    at = [f"http://127.0.0.1:{port}/" for port in ports]
+
+    async def taps(request: web.Request) -> web.StreamResponse:
+        asked.append(request.url.port or 0)
+        if request.url.port == ports[1] or len(asked) > 3:
+            return web.Response(status=404)
+        return await connected(request, *greeting(at=at[: len(asked)]))
+
+    async def work() -> None:
+        async with serving(ports[0], taps) as link, serving(ports[1], taps):
+            remote = await Remote.open(link)
+            with pytest.raises(Over, match="is the link of no reporter there"):
+                async with asyncio.timeout(30):
+                    await remote.over
+            await remote.close()
+
+    asyncio.run(work())
+    assert asked == [ports[0], ports[0], ports[1], ports[0]]

@@ -1,6 +1,8 @@
-"""Why something is not entered, or a program ends: each is told by its text, in one line."""
+"""Why something is not entered, or a program ends: each is told by its text, in one line. The
+braces of a text get what the fault is raised with."""
 
 import errno
+from typing import TypeVar
 
 from ucl_hall.refusals import ADVICE
 
@@ -34,6 +36,24 @@ class Over(Fault):
     status = 1
 
 
+class BadArgument(Over):
+    """The command line says what is not so."""
+
+    status = 2
+
+
+Kind = TypeVar("Kind", bound=Fault)
+
+
+def kind_of(fault: type[Kind], text: str) -> type[Kind]:
+    """A kind of this fault, which has a text of its own."""
+    kind: type[Kind] = type(fault.__name__, (fault,), {"text": text})
+    return kind
+
+
+# ---- nothing is entered
+
+
 class Dropped(NotEntered):
     """An edition has begun since."""
 
@@ -41,22 +61,10 @@ class Dropped(NotEntered):
         super().__init__("dropped: " + ADVICE["dropped"].typed.format(edition=edition))
 
 
-class Lost(NotEntered):
-    """It was asked about, and is not in: from then on it is never entered."""
-
-    text = ADVICE["lost"].typed
-
-
 class Outdated(NotEntered):
     """It would do something else by now than was agreed upon."""
 
     text = "nothing is appended: rows have come since, so look at it again"
-
-
-class Held(NotEntered):
-    """Another program has the lock of a record, and keeps it."""
-
-    text = "another program holds the lock of {}: nothing was entered"
 
 
 class NotWritten(NotEntered):
@@ -66,6 +74,21 @@ class NotWritten(NotEntered):
 
     def __init__(self, error: OSError) -> None:
         super().__init__("the disk is full" if error.errno in NO_ROOM else error.strerror)
+
+
+# It was asked about, and is not in: from then on it is never entered.
+Lost = kind_of(NotEntered, ADVICE["lost"].typed)
+# Another program has the lock of a record, and keeps it.
+Held = kind_of(NotEntered, "another program holds the lock of {}: nothing was entered")
+# A node has done nothing of what it was asked.
+NotDone = kind_of(NotEntered, "etcd says: {}: nothing was entered")
+# How many events a line enters, and how many one transaction takes.
+TooMany = kind_of(
+    NotEntered,
+    "these are {} events, and etcd takes {} at once: nothing was entered; type some of them",
+)
+
+# ---- nobody knows whether it is entered
 
 
 class CutOff(MaybeEntered):
@@ -82,114 +105,70 @@ class DiskFails(MaybeEntered):
         super().__init__(f"the disk fails: {error.strerror}")
 
 
-class Replaced(Over):
-    """A record is not what it was."""
-
-    text = (
-        "{} has become another file, or shorter; a record only grows, so look what was done to it, "
-        "and start again"
-    )
-
-
-class BadAddress(Over):
-    """An address of a record in etcd is none."""
-
-    status = 2
-    text = (
-        "{} is no address, as etcd://HOST:PORT,HOST:PORT/NAME or etcd://HOST:PORT/NAME?access=FILE"
-    )
-
-
-class PasswordInAddress(Over):
-    """An address of a record in etcd has a password, which others would read."""
-
-    status = 2
-    text = (
-        'an address has no name and no password: put them into a file, as user = "board" and '
-        'password = "..", and give its name behind the address, as ?access=FILE'
-    )
-
-
-class Readable(Over):
-    """Others can read a file that lets somebody in."""
-
-    text = "others can read {0}: chmod 600 {0}"
-
-
-class NoAccess(Over):
-    """A file says nothing of who may ask etcd: its name, and why."""
-
-    text = '{}: it takes user, password, ca, certificate and key, as user = "board": {}'
-
-
-class Unreached(Over):
-    """No node of a cluster answers: which, and what was met last."""
-
-    text = "no majority of {} answers: {}"
-
-
-class NotDone(NotEntered):
-    """A node has done nothing of what it was asked."""
-
-    text = "etcd says: {}: nothing was entered"
-
-
 class MaybeDone(MaybeEntered):
     """An answer of a node was lost, and the next says that it does nothing."""
 
 
-class Unprotected(Fault):
-    """A warning: nodes on other machines are asked without TLS."""
+# ---- the program ends: its records
 
-    text = (
-        "{} is asked without TLS: whoever is on this network can read and change the record; give "
-        "ca, certificate and key in a file, by ?access=FILE"
-    )
+Replaced = kind_of(
+    Over,
+    "{} has become another file, or shorter; a record only grows, so look what was done to it, and "
+    "start again",
+)
+OnShare = kind_of(Over, "{} is on a share: keep the record on a disk of this machine")
+# The number of a line, and the most bytes of a row.
+LongLine = kind_of(Over, "line {} has more than {} bytes, so it is no row")
+# The rows of a record are none, or `ucl_live` fails: its name, and the fault.
+NoBoard = kind_of(Over, "{} has no board, or ucl_live failed: {}")
+# A library, and the package of Debian.
+NotInstalled = kind_of(Over, "{} is not installed; Debian has it in {}")
 
+# ---- who may ask etcd
 
-class TooMany(NotEntered):
-    """A line enters more events than one transaction takes: how many, and how many it takes."""
+BadAddress = kind_of(
+    BadArgument,
+    "{} is no address, as etcd://HOST:PORT,HOST:PORT/NAME or etcd://HOST:PORT/NAME?access=FILE",
+)
+PasswordInAddress = kind_of(
+    BadArgument,
+    'an address has no name and no password: put them into a file, as user = "board" and '
+    'password = "..", and give its name behind the address, as ?access=FILE',
+)
+Readable = kind_of(Over, "others can read {0}: chmod 600 {0}")
+# A file says nothing of who may ask: its name, and why.
+NoAccess = kind_of(
+    Over, '{}: it takes user, password, ca, certificate and key, as user = "board": {}'
+)
+# A warning.
+Unprotected = kind_of(
+    Fault,
+    "{} is asked without TLS: whoever is on this network can read and change the record; give ca, "
+    "certificate and key in a file, by ?access=FILE",
+)
 
-    text = "these are {} events, and etcd takes {} at once: nothing was entered; type some of them"
+# ---- records in etcd
 
-
-class LongLine(Over):
-    """A line of a file is no row: its number, and the most bytes."""
-
-    text = "line {} has more than {} bytes, so it is no row"
-
-
-class NoRecord(Over):
-    """There is no record in etcd."""
-
-    text = "there is no record {} in etcd"
-
-
-class HalfBegun(Over):
-    """A record in etcd was begun, and not ended with."""
-
-    text = (
-        "the beginning of {0} in etcd was cut off: begin it again from the same file, or remove it "
-        "by `etcdctl del --prefix {0}`"
-    )
-
-
-class OtherLayout(Over):
-    """A record in etcd is of another version: its key, and what it says."""
-
-    text = (
-        "{} in etcd says {}, so this record is of another version: there print its rows by "
-        "ucl_reporter --rows, and here begin another record --from them"
-    )
-
-
-class OtherCluster(Over):
-    """A node is of another cluster than the one before: its address, that cluster, and this one."""
-
-    text = (
-        "{} is of cluster {}, and this record is in cluster {}: give the nodes of one cluster, and "
-        "start again"
-    )
+# The nodes, and what was met last.
+Unreached = kind_of(Over, "no majority of {} answers: {}")
+# A node, its cluster, and that of the nodes before.
+OtherCluster = kind_of(
+    Over,
+    "{} is of cluster {}, and this record is in cluster {}: give the nodes of one cluster, and "
+    "start again",
+)
+NoRecord = kind_of(Over, "there is no record {} in etcd")
+HalfBegun = kind_of(
+    Over,
+    "the beginning of {0} in etcd was cut off: begin it again from the same file, or remove it by "
+    "`etcdctl del --prefix {0}`",
+)
+# The key of the layout, and what it says.
+OtherLayout = kind_of(
+    Over,
+    "{} in etcd says {}, so this record is of another version: there print its rows by "
+    "ucl_reporter --rows, and here begin another record --from them",
+)
 
 
 class InEtcd(Over):
@@ -199,60 +178,37 @@ class InEtcd(Over):
         super().__init__(key.decode(errors="replace") if isinstance(key, bytes) else key, *values)
 
 
-class StrangeKey(InEtcd):
-    """A key among the rows is no row of this program."""
+_BRING_BACK = (
+    ", and a record only grows: bring back the snapshot of etcd, or begin another record --from "
+    "the rows that you have"
+)
+# A key among the rows is not of this program.
+StrangeKey = kind_of(
+    InEtcd,
+    "{0} in etcd is no row of this record: `etcdctl del {0}` if nobody needs it, and start again",
+)
+# A key, and the most bytes of a row.
+TooLong = kind_of(
+    InEtcd,
+    "{0} in etcd has more than {1} bytes, so it is no row: `etcdctl del {0}`, and start again",
+)
+# A row that was there, or is before others that are.
+Gap = kind_of(InEtcd, "{} is missing in etcd" + _BRING_BACK)
+# A row that was written twice.
+ChangedRow = kind_of(InEtcd, "{} in etcd was changed" + _BRING_BACK)
 
-    text = "{0} in etcd is no row of this record: `etcdctl del {0}` if nobody needs it, and start again"
+# ---- children
 
-
-class TooLong(InEtcd):
-    """A value is longer than a row can be: its key, and the most bytes."""
-
-    text = (
-        "{0} in etcd has more than {1} bytes, so it is no row: `etcdctl del {0}`, and start again"
-    )
-
-
-class Gap(InEtcd):
-    """A row is missing that was there, or before others that are."""
-
-    text = (
-        "{} is missing in etcd, and a record only grows: bring back the snapshot of etcd, or begin "
-        "another record --from the rows that you have"
-    )
-
-
-class ChangedRow(InEtcd):
-    """A row was written twice."""
-
-    text = (
-        "{} in etcd was changed, and a record only grows: bring back the snapshot of etcd, or begin "
-        "another record --from the rows that you have"
-    )
-
-
-class NotInstalled(Over):
-    """A library is missing: its name, and the package of Debian."""
-
-    text = "{} is not installed; Debian has it in {}"
-
-
-class OnShare(Over):
-    """A record is on another machine's disk."""
-
-    text = "{} is on a share: keep the record on a disk of this machine"
-
-
-class NoBoard(Over):
-    """The rows of a record are none, or `ucl_live` fails: its name, and the fault."""
-
-    text = "{} has no board, or ucl_live failed: {}"
-
-
-class NotStarted(Over):
-    """A program can not be started: its name, and why."""
-
-    text = "{}: {}"
+# A program that can not be started, and why; one that has ended by itself, and how it failed; and
+# one that is killed by a signal as often as it is started.
+NotStarted = kind_of(Over, "{}: {}")
+Ended = kind_of(Over, "{}: {}")
+Killed = kind_of(Over, "{} is killed by signal {} again and again")
+# In so many seconds.
+Late = kind_of(Over, "ucl_live has not answered in {:g} seconds")
+# A program says what none of this version says.
+Unknown = kind_of(Over, "this ucl_live is of another version: {!r}")
+UnknownShown = kind_of(Over, "this ucl_follow is of another version: {!r}")
 
 
 class Failed(Over):
@@ -260,33 +216,3 @@ class Failed(Over):
 
     def __init__(self, said: str, status: int | None) -> None:
         super().__init__(said or f"it has ended with status {status}")
-
-
-class Ended(Over):
-    """A child has ended by itself: its program, and how it failed."""
-
-    text = "{}: {}"
-
-
-class Killed(Over):
-    """A child is killed as often as it is started: its program, and by which signal."""
-
-    text = "{} is killed by signal {} again and again"
-
-
-class Late(Over):
-    """`ucl_live` has not answered in so many seconds."""
-
-    text = "ucl_live has not answered in {:g} seconds"
-
-
-class Unknown(Over):
-    """`ucl_live` says what none of this version says."""
-
-    text = "this ucl_live is of another version: {!r}"
-
-
-class UnknownShown(Over):
-    """`ucl_follow` shows what none of this version shows."""
-
-    text = "this ucl_follow is of another version: {!r}"

@@ -1,4 +1,5 @@
-"""How a program runs: where `ucl_live` is, until a signal, to an end that is told in one line."""
+"""How a program runs: where `ucl_live` is, what its input is, until a signal, to an end that is told
+in one line."""
 
 import asyncio
 import contextlib
@@ -8,7 +9,8 @@ import shutil
 import signal
 import subprocess
 import sys
-from collections.abc import Coroutine, Iterator
+import threading
+from collections.abc import AsyncIterator, Callable, Coroutine, Iterator
 from typing import Any
 
 from ucl_hall.faults import Fault, Over
@@ -42,6 +44,29 @@ async def until_ended(work: Coroutine[Any, Any, int]) -> int:
         return ended[0]
 
 
+async def read_input(read: Callable[[], bytes]) -> AsyncIterator[bytes]:
+    """What a call gives that reads standard input, up to its end or where it can not be read.
+
+    A thread calls it, for which nobody waits: a read of a pipe can not be ended.
+    """
+    came: asyncio.Queue[bytes] = asyncio.Queue()
+    loop, room = asyncio.get_running_loop(), threading.Semaphore(4)
+
+    def work() -> None:
+        # The loop may be over meanwhile.
+        with contextlib.suppress(RuntimeError):
+            with contextlib.suppress(OSError):
+                for piece in iter(read, b""):
+                    loop.call_soon_threadsafe(came.put_nowait, piece)
+                    room.acquire()
+            loop.call_soon_threadsafe(came.put_nowait, b"")
+
+    threading.Thread(target=work, daemon=True).start()
+    while piece := await came.get():
+        yield piece
+        room.release()
+
+
 @contextlib.contextmanager
 def ending(name: str) -> Iterator[None]:
     """Ends the program of this name where it can go on no more, by one line and the fault's status;
@@ -65,11 +90,6 @@ def text_of(fault: BaseException | None) -> str:
     if isinstance(fault, OSError) and fault.filename is not None:
         return f"{fault.filename}: {fault.strerror}"
     return str(fault) if isinstance(fault, Fault | OSError) else repr(fault)
-
-
-def live_program() -> str:
-    """The path of `ucl_live`. Raises what `program_named` raises."""
-    return program_named("ucl_live")
 
 
 def program_named(name: str) -> str:

@@ -1,7 +1,9 @@
 """Text from outside: what comes of a file, of another machine or of a person goes to a screen
 through here."""
 
+import json
 import sys
+from collections.abc import Mapping
 
 # The most characters of such a text that one line shows.
 LONGEST = 200
@@ -19,6 +21,15 @@ def printable(text: str | bytes, most: int = LONGEST) -> str:
     if len(text) > most:
         text = text[: most - 3] + "..."
     return "".join(letter if letter.isprintable() else "?" for letter in text)
+
+
+def members_of(line: str | bytes) -> Mapping[str, object]:
+    """The members of an object of JSON; none of another text."""
+    try:
+        said = json.loads(line)
+    except (ValueError, RecursionError):
+        return {}
+    return said if isinstance(said, dict) else {}
 
 
 def warn(text: str) -> None:

@@ -3,13 +3,12 @@
 import asyncio
 from collections import defaultdict
 from collections.abc import Callable, Sequence
-from typing import Any
 
 from ucl_hall.engine.answers import Accepted, LeftOut, Mended, Moment, Reply
 from ucl_hall.engine.history import Event
 from ucl_hall.engine.json_lines import NoAnswer, answer_of, line_of, part_of, reply_of
 from ucl_hall.engine.trial import Change, Trial
-from ucl_hall.faults import Dropped, Lost, MaybeEntered, NotEntered
+from ucl_hall.faults import Dropped, Lost, MaybeEntered, NotEntered, kind_of
 from ucl_hall.remote.link import LONGEST, Link, Said, text_of
 from ucl_hall.record.sending import Entered, Events, Outcome, Sending, Way, new_id
 from ucl_hall.rows import MATCHES, REPORTERS, Row
@@ -20,56 +19,40 @@ LONGEST_FAULT = 400
 # By what name of its id a message is sent.
 NAMES = {Way.FIRST: "tap", Way.AGAIN: "again", Way.ASKED: "ask"}
 
-
-class AtDesk(NotEntered):
-    """It is not entered from afar."""
-
-    text = "a mend is entered at the desk, on the machine that has the record"
-
-
-class NotYours(NotEntered):
-    """A match is another reporter's by now."""
-
-    text = "match {} is not yours"
-
-
-class NoMoreYours(MaybeEntered):
-    """A match is another reporter's by now, and was not when it was sent."""
-
-    text = "match {} is not yours any more; " + MaybeEntered.text.partition(": ")[2]
-
-
-class TooLong(NotEntered):
-    """A line has more events than one message."""
-
-    text = "these are too many events for one line from here: enter fewer at a time"
-
-
-class Told(MaybeEntered):
-    """Nobody knows whether it is in: the server says why."""
-
-    text = "{}"
+AtDesk = kind_of(NotEntered, "a mend is entered at the desk, on the machine that has the record")
+TooLong = kind_of(
+    NotEntered, "these are too many events for one line from here: enter fewer at a time"
+)
+# A match is another reporter's by now, and was so when it was typed, or not when it was sent.
+NotYours = kind_of(NotEntered, "match {} is not yours")
+NoMoreYours = kind_of(
+    MaybeEntered, "match {} is not yours any more; " + MaybeEntered.text.partition(": ")[2]
+)
+# The server says why nobody knows whether it is in.
+Told = kind_of(MaybeEntered, "{}")
 
 
 class Remote:
     """A board that is followed by a link. `Remote.open` makes one, and `close` ends it.
 
-    `number` and `matches` are the reporter's. `notices` has that the connection is lost, and an
-    empty text once it is there again.
+    `number` and `matches` are the reporter's. `tell` is called where the connection is lost, with
+    what that means, and with an empty text once it is there again.
     """
 
     def __init__(self, url: str) -> None:
         self.number, self.matches = 0, list[int]()
-        self.notices: asyncio.Queue[str] = asyncio.Queue()
-        self._link = Link(url, self._heard, self.notices.put_nowait)
+        self.tell = _warn
+        self._link = Link(url, self._heard, lambda notice: self.tell(notice))
         self._moment: Moment | None = None
         self._listeners: list[Callable[[Reply], None]] = []
         # What came of a mend before its screen, and the last event that was told.
         self._begun: list[LeftOut | Mended] = []
-        self._row = 0
-        self._is_known, self._grown = asyncio.Event(), asyncio.Event()
+        self._row, self._grown = 0, asyncio.Event()
         self._events = defaultdict[int, list[Event]](list)
-        self._over: asyncio.Future[None] = asyncio.get_running_loop().create_future()
+        loop = asyncio.get_running_loop()
+        # Whose link it is, and what stands, is known; and it can be followed no more.
+        self._known: asyncio.Future[None] = loop.create_future()
+        self.over: asyncio.Future[None] = loop.create_future()
         self._task = asyncio.create_task(self._run())
 
     @classmethod
@@ -80,16 +63,10 @@ class Remote:
         """
         remote = cls(url)
         try:
-            known = asyncio.create_task(remote._is_known.wait())
-            while not known.done():
-                notice = asyncio.create_task(remote.notices.get())
-                events: list[asyncio.Future[Any]] = [known, notice, remote.over]
-                await asyncio.wait(events, return_when=asyncio.FIRST_COMPLETED)
-                if remote.over.done():
-                    remote.over.result()
-                if notice.done():
-                    warn(f"ucl_reporter: {notice.result() or 'connected again'}")
-                notice.cancel()
+            either = [remote._known, remote.over]
+            await asyncio.wait(either, return_when=asyncio.FIRST_COMPLETED)
+            if remote.over.done():
+                remote.over.result()
         except BaseException:
             await remote.close()
             raise
@@ -104,10 +81,6 @@ class Remote:
     def moment(self) -> Moment:
         assert self._moment is not None
         return self._moment
-
-    @property
-    def over(self) -> asyncio.Future[None]:
-        return self._over
 
     def listen(self, listener: Callable[[Reply], None]) -> None:
         self._listeners.append(listener)
@@ -149,7 +122,7 @@ class Remote:
 
     async def _reach(self, rows: Sequence[Row], edition: int) -> None:
         """Waits for a moment that has these events: on a slow line an answer may overtake it."""
-        while self.moment.edition == edition and not self._over.done():
+        while self.moment.edition == edition and not self.over.done():
             if all(self.moment.match(row.match).number > row.expected for row in rows):
                 return
             self._grown.clear()
@@ -162,8 +135,8 @@ class Remote:
         try:
             await self._link.run()
         except Exception as fault:  # whatever it is, who waits has to know
-            self._over.set_exception(fault)
-            self._over.exception()
+            self.over.set_exception(fault)
+            self.over.exception()
             for sent in self._link.waiting:
                 sent.answer.set_exception(fault)
             self._grown.set()
@@ -176,16 +149,18 @@ class Remote:
                     self._name(said)
                 case "left-out" | "mended" | "screen":
                     self._take(line)
-                case "recent":
+                case "recent" if self._moment is not None:
                     self._take_events([_numbered(it) for it in _list(said, "events")])
         except NoAnswer:
             return
 
     def _name(self, said: Said) -> None:
         number, matches = said.get("number"), _list(said, "matches")
-        if number not in REPORTERS or not matches or any(it not in MATCHES for it in matches):
+        if type(number) is not int or number not in REPORTERS:
             raise NoAnswer("it names no reporter")
-        self.number, self.matches = int(str(number)), [it for it in MATCHES if it in matches]
+        if not matches or any(it not in MATCHES for it in matches):
+            raise NoAnswer("it names no matches")
+        self.number, self.matches = number, [it for it in MATCHES if it in matches]
         # The server may have been started anew, with other matches of this reporter.
         for sent in self._link.waiting:
             match = sent.first.get("match", self.matches[0])
@@ -209,17 +184,21 @@ class Remote:
         row, moment = self._row, self.moment
         self._row = max([row, *(event.row for event, _ in events)])
         for event, number in reversed(events):
-            if event.row > row and self._is_known.is_set():
+            if event.row > row and self._known.done():
                 told = Row(event.match, number - 1, event.event)
                 age = moment.edition, moment.version
                 answer = Accepted(event.row, event.reporter, told, number, *age, b"")
                 self._hand_on(Reply(answer, moment))
-        if self.number:
-            self._is_known.set()
+        if self.number and not self._known.done():
+            self._known.set_result(None)
 
     def _hand_on(self, reply: Reply) -> None:
         for listener in self._listeners:
             listener(reply)
+
+
+def _warn(notice: str) -> None:
+    warn(f"ucl_reporter: {notice or 'connected again'}")
 
 
 def _message(events: Events, name: str = "") -> Said:

@@ -1,11 +1,10 @@
 """A reporter whose input is no terminal, and a screen whose output is none."""
 
 import asyncio
-import contextlib
-import threading
 
 from ucl_hall.engine.trial import Change
 from ucl_hall.faults import MaybeEntered, NotEntered
+from ucl_hall.program import read_input
 from ucl_hall.record.board import Board
 from ucl_hall.terminal import words
 from ucl_hall.terminal.grammar import Help, Numbered, typed
@@ -21,19 +20,10 @@ async def enter_lines(session: Session, edition: int) -> int:
 
     Raises NotEntered at the first that is refused, and the fault by which the board ends.
     """
-    lines: asyncio.Queue[bytes] = asyncio.Queue()
-    loop = asyncio.get_running_loop()
-
-    def read() -> None:
-        # Not by `sys.stdin`, whose lock would be held at the program's end.
-        with contextlib.suppress(RuntimeError), open(0, "rb", closefd=False) as source:
-            while line := source.readline(LONGEST):
-                loop.call_soon_threadsafe(lines.put_nowait, line)
-            loop.call_soon_threadsafe(lines.put_nowait, b"")
-
-    threading.Thread(target=read, daemon=True).start()
+    # Not by `sys.stdin`, whose lock would be held at the program's end.
+    readline = open(0, "rb", closefd=False).readline
     await session.board.ready()
-    while line := await lines.get():
+    async for line in read_input(lambda: readline(LONGEST)):
         await _enter(session, line.decode(errors="replace").strip(), edition)
     return 0
 

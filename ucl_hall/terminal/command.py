@@ -7,15 +7,13 @@ import io
 import re
 import sys
 import time
-from collections.abc import Callable, Coroutine
-from dataclasses import dataclass
-from typing import Any
+from collections.abc import Coroutine
+from typing import TYPE_CHECKING, Any
 
 from ucl_hall.engine.trial import Change
 from ucl_hall.faults import NotEntered, Over
-from ucl_hall.program import ending, live_program
+from ucl_hall.program import ending, program_named
 from ucl_hall.record.begin import begin
-from ucl_hall.record.board import Board
 from ucl_hall.record.places import exists, opened
 from ucl_hall.record.record import Record
 from ucl_hall.rows import LAST_EDITION, MATCHES, REPORTERS, number_in
@@ -24,7 +22,9 @@ from ucl_hall.terminal.batch import enter_lines, watch_lines
 from ucl_hall.terminal.grammar import LINES, typed
 from ucl_hall.terminal.session import Display, Printed, Session
 from ucl_hall.terminal.setup import rows_by_questions
-from ucl_hall.text import warn
+
+if TYPE_CHECKING:
+    from ucl_hall.remote.board import Remote
 
 LINK = re.compile(r"https?://[^/\s]+/report/[^/\s]+/?")
 USAGE = """ucl_reporter RECORD [--number N] [--matches LIST] [--edition N]
@@ -58,19 +58,11 @@ answer, and is in the record at most once. A mend is entered at the desk.
 """
 
 
-@dataclass(frozen=True, slots=True)
-class Opened:
-    """A board, who enters events there and of which matches, and why it is not reached: nothing is
-    told once it is."""
-
-    board: Board
-    own: int
-    matches: list[int]
-    notices: asyncio.Queue[str]
-
-
 def options_of(arguments: list[str]) -> argparse.Namespace:
-    """What the command line says; ends the program where it has none of the forms of the usage."""
+    """What the command line says; ends the program where it has none of the forms of the usage.
+
+    `number` and `matches` are None where it leaves them out.
+    """
     parser = argparse.ArgumentParser(
         prog="ucl_reporter",
         usage=USAGE,
@@ -119,20 +111,20 @@ def main() -> None:
         if _is_link(options.record):
             sys.exit(asyncio.run(_run(options, _linked(options))))
         first = _first_rows(options)
-        sys.exit(asyncio.run(_run(options, _opened(options, live_program(), first))))
+        sys.exit(asyncio.run(_run(options, _opened(options, first))))
 
 
-async def _run(options: argparse.Namespace, opening: Coroutine[Any, Any, Opened]) -> int:
-    opened = await opening
+async def _run(options: argparse.Namespace, opening: "Coroutine[Any, Any, Record | Remote]") -> int:
+    board = await opening
     try:
-        return await _done(options, opened)
+        return await _done(options, board)
     finally:
-        await opened.board.close()
+        await board.close()
 
 
-async def _done(options: argparse.Namespace, opened: Opened) -> int:
+async def _done(options: argparse.Namespace, board: "Record | Remote") -> int:
     """Does what the command line says, and gives the status."""
-    board, own, matches, display = opened.board, opened.own, opened.matches, Printed()
+    own, matches, display = options.number or 1, options.matches or [*MATCHES], Printed()
     if options.sheet:
         display.show(*words.sheet(board.moment))
         return 0
@@ -142,54 +134,34 @@ async def _done(options: argparse.Namespace, opened: Opened) -> int:
         from ucl_hall.terminal.screen import Screen
 
         screen = Screen(board, own, matches, is_watching=options.watch)
-        return await _told(opened.notices, screen.tell, screen.run())
+        if not isinstance(board, Record):
+            board.tell = screen.tell
+        return await screen.run()
     if options.watch:
-        return await _told(opened.notices, _warn, watch_lines(board, matches))
-    session = Session(board, own, matches, display)
-    return await _told(opened.notices, _warn, enter_lines(session, options.edition or 0))
+        return await watch_lines(board, matches)
+    return await enter_lines(Session(board, own, matches, display), options.edition or 0)
 
 
-def _warn(notice: str) -> None:
-    warn(f"ucl_reporter: {notice or 'connected again'}")
-
-
-async def _told(
-    notices: asyncio.Queue[str], tell: Callable[[str], None], work: Coroutine[Any, Any, int]
-) -> int:
-    """Does work, and tells notices meanwhile."""
-
-    async def tell_all() -> None:
-        while True:
-            tell(await notices.get())
-
-    showing = asyncio.create_task(tell_all())
-    try:
-        return await work
-    finally:
-        showing.cancel()
-
-
-async def _opened(options: argparse.Namespace, program: str, first: bytes | None) -> Opened:
+async def _opened(options: argparse.Namespace, first: bytes | None) -> Record:
     """Opens the record, which begins with the first rows if there are any."""
-    path = options.record
+    path, program = options.record, program_named("ucl_live")
     if first is not None and not await begin(path, program, first):
         print(f"Another has begun {path} meanwhile: it stays as it is, and is used")
-    record = await Record.open(path, program, is_read_only=options.watch or options.sheet)
-    return Opened(record, options.number or 1, options.matches or [*MATCHES], asyncio.Queue())
+    return await Record.open(path, program, is_read_only=options.watch or options.sheet)
 
 
-async def _linked(options: argparse.Namespace) -> Opened:
-    """Opens the board of a link."""
+async def _linked(options: argparse.Namespace) -> "Remote":
+    """Opens the board of a link, which says whose it is."""
     try:
         from ucl_hall.remote.board import Remote
     except ModuleNotFoundError as error:
         raise Over(f"{error.name} is not installed; Debian has it in python3-aiohttp") from error
     remote = await Remote.open(options.record)
-    matches = [it for it in options.matches or remote.matches if it in remote.matches]
-    if len(matches) < len(options.matches or matches):
+    options.number, options.matches = remote.number, options.matches or remote.matches
+    if not {*options.matches} <= {*remote.matches}:
         await remote.close()
         raise Over(f"--matches: those of this link are {', '.join(map(str, remote.matches))}")
-    return Opened(remote, remote.number, matches, remote.notices)
+    return remote
 
 
 def _is_link(record: str) -> bool:
@@ -216,7 +188,7 @@ def _first_rows(options: argparse.Namespace) -> bytes | None:
         return None
     if not sys.stdin.isatty() or options.mend is not None or options.sheet:
         raise Over(f"there is no {path}; type ./ucl_reporter {path} at a terminal to begin it")
-    live_program()
+    program_named("ucl_live")  # before anything is asked
     return rows_by_questions()
 
 

@@ -9,9 +9,8 @@ import sys
 from collections.abc import Mapping, Sequence
 from urllib.parse import urlsplit
 
-from ucl_hall.faults import Over
-from ucl_hall.program import ending, text_of, until_ended
-from ucl_hall.program import live_program, program_named
+from ucl_hall.faults import BadArgument, Over
+from ucl_hall.program import ending, program_named, until_ended
 from ucl_hall.record import begin, places
 from ucl_hall.record.record import Record
 from ucl_hall.rows import GROUPS
@@ -34,13 +33,6 @@ OPEN = (
     "or use a network of your own."
 )
 SEEN = "Whoever sees a code can enter events: keep this terminal off every projector."
-
-
-class NoSuchGroups(Over):
-    """The records are not of the groups that the command line says: two are of one, or none is of
-    one that it names."""
-
-    status = 2
 
 
 def urls_of(options: Options) -> list[str]:
@@ -109,12 +101,12 @@ async def serve(options: Options, first: Mapping[str, bytes]) -> int:
     """Serves until no record can be followed any more, each file for this server alone, and gives
     the status.
 
-    Begins the records of which there are first rows. Raises NoSuchGroups where two are of one group,
-    Over where the port is taken, and what `keys.held` and `Record.open` raise.
+    Begins the records of which there are first rows. Raises BadArgument where the records are not
+    of the groups that are meant, Over where the port is taken, and what `keys.held` and
+    `Record.open` raise.
     """
-    program, groups, screens = live_program(), list[Group](), Screens()
-    most = min(options.most_screens, files_for_screens())
-    server = Server(groups, groups, screens, options.title, most, names_of(options), options.at)
+    program, groups = program_named("ucl_live"), list[Group]()
+    server = _server(options, groups)
     async with contextlib.AsyncExitStack() as stack:
         opened = list[tuple[Record, Keys]]()
         for path in options.records:
@@ -128,13 +120,17 @@ async def serve(options: Options, first: Mapping[str, bytes]) -> int:
             opened.append((record, keys))
         _check_groups(options, [record.moment.title.group for record, _ in opened])
         for record, keys in opened:
-            groups.append(await _group(options, record, keys, screens))
-            _watch(groups[-1], record.over)
+            groups.append(await _group(options, record, keys, server.screens))
         await _listen(server, options)
         stack.push_async_callback(server.close)
         tell(options, groups)
         await asyncio.wait([group.record.over for group in groups])
     return 1
+
+
+def _server(options: Options, groups: Sequence[Shown]) -> Server:
+    most = min(options.most_screens, files_for_screens())
+    return Server(groups, options.title, most, names_of(options), options.at)
 
 
 async def _group(options: Options, record: Record, keys: Keys, screens: Screens) -> Group:
@@ -149,8 +145,8 @@ async def _group(options: Options, record: Record, keys: Keys, screens: Screens)
 
 async def mirror(options: Options) -> int:
     """Serves what other servers show, until a signal."""
-    groups, most = list[Shown](), min(options.most_screens, files_for_screens())
-    server = Server(groups, (), Screens(), options.title, most, names_of(options), options.at)
+    groups = list[Shown]()
+    server = _server(options, groups)
     shown = Mirror(server, groups, program_named("ucl_follow"))
     async with contextlib.AsyncExitStack() as stack:
         stack.push_async_callback(shown.close)
@@ -165,24 +161,13 @@ async def mirror(options: Options) -> int:
 
 
 def _check_groups(options: Options, groups: Sequence[str]) -> None:
-    """Raises NoSuchGroups where the records of these groups are not those that are meant."""
+    """Raises BadArgument where the records of these groups are not those that are meant."""
     twice = [group for group in groups if groups.count(group) > 1]
     strangers = options.strangers(groups)
     if twice:
-        raise NoSuchGroups(f"two records are of group {twice[0]}")
+        raise BadArgument(f"two records are of group {twice[0]}")
     if strangers:
-        raise NoSuchGroups(f"no record is of group {strangers[0]}")
-
-
-def _watch(group: Group, over: "asyncio.Future[None]") -> None:
-    """Notes and tells the fault by which a group goes on no more."""
-
-    def fail(_: object) -> None:
-        if not over.cancelled() and not group.fault:
-            group.fault = text_of(over.exception())
-            warn(f"ucl_serve: group {group.letter}: {group.fault}")
-
-    over.add_done_callback(fail)
+        raise BadArgument(f"no record is of group {strangers[0]}")
 
 
 async def _listen(server: Server, options: Options) -> None:
@@ -217,7 +202,7 @@ def main() -> None:
         if options.follow:
             sys.exit(asyncio.run(until_ended(mirror(options))))
         if not options.links:
-            live_program()  # before anything is asked
+            program_named("ucl_live")  # before anything is asked
             sys.exit(asyncio.run(until_ended(serve(options, first_rows(options)))))
         named = list[tuple[str, str]]()
         for path in options.records:

@@ -7,7 +7,8 @@ lock.
 """
 
 import asyncio
-from collections.abc import Callable
+import contextlib
+from collections.abc import Callable, Iterator
 
 Framing = Callable[[bytes], bytes]
 # How often a slow connection is looked at, in seconds.
@@ -64,14 +65,17 @@ class Screens:
     def __len__(self) -> int:
         return len(self._all)
 
-    def add(self, screen: Screen) -> None:
-        """Has a connection get what is sent from now on."""
+    @contextlib.contextmanager
+    def having(self, screen: Screen, *lines: bytes) -> Iterator[None]:
+        """Sends a connection these lines, and what is sent to all until the block ends."""
+        for line in lines:
+            screen.write(screen.framed(line))
         self._all.add(screen)
-
-    def remove(self, screen: Screen) -> None:
-        """Has a connection get no more."""
-        self._all.discard(screen)
-        self._slow.discard(screen)
+        try:
+            yield
+        finally:
+            self._all.discard(screen)
+            self._slow.discard(screen)
 
     def send(self, topic: str, line: bytes) -> None:
         """Sends a line to all; one of the same topic that waits for a slow one is left out."""

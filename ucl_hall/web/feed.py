@@ -34,23 +34,17 @@ class Feed:
         Raises that there is no such group, or that there is no place for more.
         """
         groups, visitor = asked(request, self._groups), visitor_of(request)
-        if not visitor.stay(self._places, visitor.address, Allowance(OF_SCREEN, 0)):
-            raise web.HTTPServiceUnavailable
         response = web.StreamResponse(headers={"Content-Type": KIND})
-        await response.prepare(request)
-        assert isinstance(request.transport, asyncio.WriteTransport)
-        framed = _chunk_of if request.version >= HttpVersion11 else _line_of
-        screen = Screen(request.transport, framed)
-        if "group" in request.query:
-            screen.group = groups[0].letter
-        for line in [*(group.moment.line for group in groups), *self._told()]:
-            screen.write(framed(line))
-        self._screens.add(screen)
-        try:
-            await screen.gone.wait()
-        finally:
-            self._screens.remove(screen)
-            visitor.stay_no_longer()
+        with visitor.staying(self._places, visitor.address, Allowance(OF_SCREEN, 0)):
+            await response.prepare(request)
+            assert isinstance(request.transport, asyncio.WriteTransport)
+            framed = _chunk_of if request.version >= HttpVersion11 else _line_of
+            screen = Screen(request.transport, framed)
+            if "group" in request.query:
+                screen.group = groups[0].letter
+            moments = [group.moment.line for group in groups]
+            with self._screens.having(screen, *moments, *self._told()):
+                await screen.gone.wait()
         return response
 
 

@@ -1,22 +1,24 @@
 """A group that is served: its record, its reporters, and what is sent of it."""
 
+import contextlib
 import operator
 import time
-from collections.abc import Iterable, Mapping, Sequence
+from collections.abc import Iterable, Iterator, Mapping, Sequence
 
-from ucl_hall.engine.answers import Moment, Reply
+from ucl_hall.engine.answers import LeftOut, Mended, Reply
 from ucl_hall.engine.json_lines import line_of
 from ucl_hall.record.record import Record
 from ucl_hall.rows import MATCHES
-from ucl_hall.web.connections import Screen, Screens, frame_of
+from ucl_hall.web.connections import Screen, Screens
 from ucl_hall.web.keys import is_key
 from ucl_hall.web.phones import Reporter, events_told
+from ucl_hall.web.shown import Shown
 
 # How many events a phone lists.
 RECENT = 10
 
 
-class Group:
+class Group(Shown):
     """The board of a record, with those who look on. Screens may be of several groups."""
 
     def __init__(
@@ -28,11 +30,8 @@ class Group:
         evening: Sequence[int] | None = None,
         at: Sequence[str] = (),
     ) -> None:
-        self.record = record
-        self.keys = keys
-        self.letter = record.moment.title.group
-        self.phones = Screens()
-        self.fault = ""
+        super().__init__(record.moment.title.group, record)
+        self.record, self.keys, self.phones = record, keys, Screens()
         # The addresses of all who serve it.
         self._at = at
         self._screens, self._evening = screens, evening
@@ -45,23 +44,13 @@ class Group:
         record.listen(self._tell)
 
     @property
-    def moment(self) -> Moment:
-        """The moment that stands."""
-        return self.record.moment
-
-    @property
     def silence(self) -> int:
         """For how many seconds nothing is known of the record; 0 while it is there. Who serves it
         asks each second."""
-        if self.is_there:
+        if self.record.is_there:
             self._known_at = time.monotonic()
             return 0
         return 1 + int(time.monotonic() - self._known_at)
-
-    @property
-    def is_there(self) -> bool:
-        """Whether the record is followed still, and nothing newer is known to be kept from us."""
-        return self.record.is_there
 
     def reporter_of(self, key: str) -> Reporter | None:
         """Whose key this is. Each key is compared, so the time tells nothing."""
@@ -89,20 +78,15 @@ class Group:
         others = {now.match for first, now in pairs if now.state == "IN PLAY" or now != first}
         return sorted(of_reporters | others)
 
-    def greet(self, phone: Screen, reporter: Reporter, title: str) -> None:
-        """Sends a phone whose link it is, what there is, and from now on what changes."""
+    @contextlib.contextmanager
+    def having(self, phone: Screen, reporter: Reporter, title: str) -> Iterator[None]:
+        """Sends a phone whose link it is, what there is, and what changes until the block ends."""
         whose = {"number": reporter.number, "group": self.letter, "matches": reporter.matches}
         more = {"at": self._at, "resends": True} if self.record.keeps_keys else {}
         named = line_of("reporter", title=title, **whose, **more)
-        for line in named, self.record.moment.line, self.recent():
-            phone.write(frame_of(line))
-        self.phones.add(phone)
-        reporter.phones.add(phone)
-
-    def part(self, phone: Screen, reporter: Reporter) -> None:
-        """Sends a phone no more."""
-        self.phones.remove(phone)
-        reporter.phones.remove(phone)
+        lines = named, self.record.moment.line, self.recent()
+        with self.phones.having(phone, *lines), reporter.phones.having(phone):
+            yield
 
     def recent(self) -> bytes:
         """The line of the last events, the newest first."""
@@ -110,17 +94,9 @@ class Group:
         told.sort(key=operator.itemgetter("row"), reverse=True)
         return line_of("recent", events=told[:RECENT])
 
-    def health(self) -> dict[str, object]:
-        """What whoever watches it is told."""
-        moment: Moment = self.record.moment
-        return {
-            "edition": moment.edition,
-            "version": moment.version,
-            "rows": moment.row,
-            "is_there": self.is_there,
-            "phones": {number: len(it.phones) for number, it in self.reporters.items()},
-            "fault": self.fault,
-        }
+    def more(self) -> dict[str, object]:
+        phones = {number: len(it.phones) for number, it in self.reporters.items()}
+        return {"rows": self.moment.row, "phones": phones}
 
     def _tell(self, reply: Reply) -> None:
         """Sends what a row has changed."""
@@ -129,7 +105,7 @@ class Group:
         self._screens.send(self.letter, reply.screen.line)
         if len(self.phones):
             for answer in (*reply.left_out, reply.answer):
-                if answer.line != reply.screen.line and b'"reply":"ok"' not in answer.line:
+                if isinstance(answer, LeftOut | Mended):
                     self.phones.send(str(answer.row), answer.line)
             self.phones.send("screen", reply.screen.line)
             self.phones.send("recent", self.recent())

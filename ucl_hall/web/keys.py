@@ -13,7 +13,7 @@ import os
 import re
 import secrets
 import stat
-from collections.abc import Collection, Iterator
+from collections.abc import Callable, Collection, Iterator, Mapping
 
 from ucl_hall.faults import Over
 
@@ -28,7 +28,7 @@ class Keys:
     def __init__(self, path: str, number: int, stack: contextlib.ExitStack) -> None:
         self._path, self._stack, self._known = path, stack, _read(path, number)
 
-    def of(
+    async def of(
         self, numbers: Collection[int], revoked: Collection[int], *, all_new: bool
     ) -> dict[int, str]:
         """The keys of these reporters, which are made where they have none.
@@ -42,6 +42,9 @@ class Keys:
             self._write("".join(f"{number} {key}\n" for number, key in sorted(keys.items())))
             self._known = keys
         return {number: keys[number] for number in numbers}
+
+    def follow(self, take: Callable[[Mapping[int, str]], None]) -> None:
+        """Nobody else ends them."""
 
     def _write(self, text: str) -> None:
         """Puts a new file in place of the old one. It is locked before it has the name."""

@@ -5,17 +5,13 @@ moments, whichever of several sources was first. No line of screens says that a 
 pulses do, and each says at which moment the board is.
 """
 
-import asyncio
-import json
 import time
 from collections.abc import Mapping
-from dataclasses import dataclass, field, replace
 
-from ucl_hall.engine.answers import Moment, Reply
+from ucl_hall.engine.answers import Reply
 from ucl_hall.engine.follow import Follow
-from ucl_hall.program import text_of
 from ucl_hall.rows import GROUPS, MATCHES
-from ucl_hall.text import printable, warn
+from ucl_hall.text import members_of, printable
 from ucl_hall.web.server import Server
 from ucl_hall.web.shown import Shown
 
@@ -25,31 +21,19 @@ Said = Mapping[str, object]
 Age = tuple[int, int]
 
 
-@dataclass
-class Names:
-    """What another server says of itself: its title, and the matches of the evening by groups."""
+class MirroredGroup(Shown):
+    """A group of which other servers tell. `evenings` has the matches of each group's, by whatever
+    they say last."""
 
-    title: str = ""
-    tonight: dict[str, list[int]] = field(default_factory=dict)
-
-
-class MirroredGroup:
-    """A group of which other servers tell."""
-
-    def __init__(self, letter: str, follow: Follow, names: Names) -> None:
-        self.letter, self.follow, self.fault, self._names = letter, follow, "", names
+    def __init__(self, letter: str, follow: Follow, evenings: Mapping[str, list[int]]) -> None:
+        super().__init__(letter, follow)
+        self.follow, self._evenings = follow, evenings
         # The last pulse: edition and version of the board, and when it came; and the latest of all.
         self._pulse: Age = (-1, -1)
         self._latest, self._pulsed_at = self._pulse, 0.0
         # When what is shown was last known to be the board's, and when this began.
         self._known_at, self._begun_at = 0.0, time.monotonic()
         follow.listen(lambda _: self._note())
-        follow.over.add_done_callback(self._end)
-
-    @property
-    def moment(self) -> Moment:
-        """The newest moment of the lines that came."""
-        return self.follow.moment
 
     @property
     def silence(self) -> int:
@@ -65,23 +49,16 @@ class MirroredGroup:
 
     def tonight(self) -> list[int] | None:
         """The matches of the evening, where the other server names them."""
-        return self._names.tonight.get(self.letter) or None
+        return self._evenings.get(self.letter) or None
 
-    def health(self) -> dict[str, object]:
-        """What whoever watches it is told."""
-        told = {"edition": self.moment.edition, "version": self.moment.version}
-        return {**told, "is_there": not self.silence, "silence": self.silence, "fault": self.fault}
+    def more(self) -> dict[str, object]:
+        return {"silence": self.silence}
 
     def _note(self) -> None:
         """Notes that what is shown is the board's, if the last pulse says so, and no later one was
         ever told of: a line may be lost, and a source may be behind."""
         if self.follow.has_shown and self._pulse == self._latest == self.moment.age:
             self._known_at = self._pulsed_at
-
-    def _end(self, over: "asyncio.Future[None]") -> None:
-        if not over.cancelled():
-            self.fault = text_of(over.exception())
-            warn(f"ucl_serve: group {self.letter}: {self.fault}")
 
 
 class Mirror:
@@ -90,11 +67,11 @@ class Mirror:
     def __init__(self, server: Server, groups: list[Shown], program: str) -> None:
         self._server, self._groups, self._program = server, groups, program
         self._has_title = bool(server.title)
-        self._names, self._known = Names(), dict[str, MirroredGroup]()
+        self._evenings, self._known = dict[str, list[int]](), dict[str, MirroredGroup]()
 
     async def take(self, line: bytes) -> None:
         """Takes a line of any source: one that is none of a feed changes nothing."""
-        said = _said(line)
+        said = members_of(line)
         letter = said.get("group")
         if said.get("reply") == "pulse":
             self._hear(said)
@@ -112,7 +89,7 @@ class Mirror:
     async def _group(self, letter: str) -> MirroredGroup:
         if letter not in self._known:
             follow = Follow(self._program, letter)
-            self._known[letter] = group = MirroredGroup(letter, follow, self._names)
+            self._known[letter] = group = MirroredGroup(letter, follow, self._evenings)
             follow.listen(lambda reply: self._show(group, reply))
             await follow.start()
         return self._known[letter]
@@ -134,26 +111,16 @@ class Mirror:
 
     def _name(self, said: Said) -> None:
         title, groups, tonight = (said.get(name) for name in ("title", "groups", "tonight"))
-        before = replace(self._names, tonight={**self._names.tonight})
-        if isinstance(title, str):
-            self._names.title = printable(title)
+        before = self._server.title, {**self._evenings}
+        if isinstance(title, str) and not self._has_title:
+            self._server.title = printable(title)
         if isinstance(groups, str) and isinstance(tonight, dict):
             for letter in filter(_is_letter, groups):
                 named = tonight.get(letter)
                 matches = [it for it in MATCHES if isinstance(named, list) and it in named]
-                self._names.tonight[letter] = matches
-        if self._names != before:
-            self._server.title = self._server.title if self._has_title else self._names.title
+                self._evenings[letter] = matches
+        if (self._server.title, self._evenings) != before:
             self._server.tell_groups()
-
-
-def _said(line: bytes) -> Said:
-    """The members of a line; none of what is no object."""
-    try:
-        said = json.loads(line)
-    except (ValueError, RecursionError):
-        return {}
-    return said if isinstance(said, dict) else {}
 
 
 def _is_letter(value: object) -> bool:

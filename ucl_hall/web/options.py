@@ -143,53 +143,52 @@ def _of(group: str, said: Sequence[tuple[str, Value]]) -> list[Value]:
     return [value for whose in ("", group) for of, value in said if of == whose]
 
 
+def _taken(value: Value | None, text: str, form: str) -> Value:
+    """The value of a text. Tells where there is none, and which form the text should have."""
+    if value is None:
+        raise argparse.ArgumentTypeError(f"{text} is no {form}")
+    return value
+
+
 def _address(text: str) -> tuple[str, int]:
     host, colon, port = text.rpartition(":")
-    number = number_in(port, 1, 65_535)
-    if not colon or number is None:
-        raise argparse.ArgumentTypeError(f"{text} is no HOST:PORT")
-    return host.strip("[]"), number
+    number = number_in(port, 1, 65_535) if colon else None
+    return host.strip("[]"), _taken(number, text, "HOST:PORT")
 
 
 def _url(text: str) -> str:
     parts = urlsplit(text)
-    if parts.scheme not in ("http", "https") or not parts.netloc or parts.path not in ("", "/"):
-        raise argparse.ArgumentTypeError(f"{text} is no http://HOST/")
-    return text.rstrip("/") + "/"
+    is_url = parts.scheme in ("http", "https") and parts.netloc and parts.path in ("", "/")
+    return _taken(text.rstrip("/") + "/" if is_url else None, text, "http://HOST/")
 
 
 def _source(text: str) -> str:
     parts = urlsplit(text)
     is_url = parts.scheme in ("http", "https") and parts.netloc and parts.path.strip("/")
-    if text != "-" and not is_url:
-        raise argparse.ArgumentTypeError(f"{text} is no http://HOST:PORT/feed, and not -")
-    return text
+    is_source = is_url or text == "-"
+    return _taken(text if is_source else None, text, "http://HOST:PORT/feed, and not -")
 
 
 def _reporter(text: str) -> tuple[str, tuple[int, Matches]]:
     group, rest = _group(text)
     number, colon, matches = rest.partition(":")
-    found = number_in(number, REPORTERS[0], REPORTERS[-1])
-    asked = _matches(matches) if colon else tuple(MATCHES)
-    if found is None or asked is None:
-        raise argparse.ArgumentTypeError(f"{text} is no reporter, as 1, 2:5,6 or B/2:5,6")
-    return group, (found, asked)
+    found, asked = _number(number), _matches(matches) if colon else tuple(MATCHES)
+    pair = None if found is None or asked is None else (found, asked)
+    return group, _taken(pair, text, "reporter, as 1, 2:5,6 or B/2:5,6")
 
 
 def _tonight(text: str) -> tuple[str, Matches]:
     group, rest = _group(text)
-    matches = _matches(rest)
-    if matches is None:
-        raise argparse.ArgumentTypeError(f"{text} is no list of matches, as 1,3 or B/1,3")
-    return group, matches
+    return group, _taken(_matches(rest), text, "list of matches, as 1,3 or B/1,3")
 
 
 def _revoked(text: str) -> tuple[str, int]:
     group, rest = _group(text)
-    found = number_in(rest, REPORTERS[0], REPORTERS[-1])
-    if found is None:
-        raise argparse.ArgumentTypeError(f"{text} is no number of a reporter, as 2 or B/2")
-    return group, found
+    return group, _taken(_number(rest), text, "number of a reporter, as 2 or B/2")
+
+
+def _count(text: str) -> int:
+    return _taken(number_in(text, 1, 1_000_000), text, "number from 1 to 1000000")
 
 
 def _group(text: str) -> tuple[str, str]:
@@ -198,14 +197,11 @@ def _group(text: str) -> tuple[str, str]:
     return (letter.upper(), rest) if slash and letter.upper() in [*GROUPS] else ("", text)
 
 
+def _number(text: str) -> int | None:
+    return number_in(text, REPORTERS[0], REPORTERS[-1])
+
+
 def _matches(text: str) -> Matches | None:
     asked = [number_in(it, 1, 12) for it in text.split(",")]
     numbers = {it for it in asked if it is not None}
     return tuple(sorted(numbers)) if None not in asked else None
-
-
-def _count(text: str) -> int:
-    number = number_in(text, 1, 1_000_000)
-    if number is None:
-        raise argparse.ArgumentTypeError(f"{text} is no number from 1 to 1000000")
-    return number

@@ -6,6 +6,10 @@ import pathlib
 import re
 from collections.abc import Sequence
 
+from aiohttp import web
+
+# The bytes that are sent at once.
+PIECE = 16_384
 FOLDER = pathlib.Path(__file__).parent / "pages"
 # What every answer of the server says to a browser.
 HEADERS = {
@@ -19,7 +23,7 @@ NOTHING = "default-src 'none'; frame-ancestors 'none'; base-uri 'none'; form-act
 
 
 class Page:
-    """A file that is sent as it is. Its policy lets it run its own script and style alone, and ask
+    """A file that is sent as it is, to whoever asks for it. Its policy lets it run its own script and style alone, and ask
     its own server and those at these addresses."""
 
     def __init__(self, name: str, at: Sequence[str] = ()) -> None:
@@ -31,6 +35,18 @@ class Page:
             others = [f" ws{url.removeprefix('http').rstrip('/')}" for url in at]
             asked = f"connect-src 'self'{''.join(others)}"
             self.policy = "; ".join([NOTHING, *parts.values(), asked])
+
+    async def answer(self, request: web.Request) -> web.StreamResponse:
+        """Sends it in pieces, each once the one before is on its way: a slow reader costs little."""
+        headers = {"Content-Security-Policy": self.policy}
+        response = web.StreamResponse(headers=headers)
+        response.content_type, response.charset = self.kind, "utf-8"
+        response.content_length = len(self.body)
+        await response.prepare(request)
+        for at in range(0, len(self.body) if request.method == "GET" else 0, PIECE):
+            await response.write(self.body[at : at + PIECE])
+        await response.write_eof()
+        return response
 
 
 def _sum(body: bytes, part: str) -> str:

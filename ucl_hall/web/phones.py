@@ -43,6 +43,7 @@ from ucl_hall.record.board import Board
 from ucl_hall.record.sending import Entered, Events, Outcome, Way
 from ucl_hall.refusals import ADVICE
 from ucl_hall.rows import EVENTS, LAST_EDITION, LAST_NUMBER, Row
+from ucl_hall.text import members_of
 from ucl_hall.web.connections import Screens
 from ucl_hall.web.visitors import A_SECOND, AT_ONCE, Allowance, Visitor
 
@@ -52,16 +53,6 @@ MOST_MESSAGES, MOST_EVENTS = 20, 100
 _ID = re.compile("[0-9a-f]{32}")
 # How a tap is sent, by the name of its id.
 WAYS = {"tap": Way.FIRST, "again": Way.AGAIN, "ask": Way.ASKED}
-
-
-@dataclass(frozen=True, slots=True)
-class Tap:
-    """Events that were tapped, the edition on the screen, and whether this was sent before."""
-
-    id: str
-    edition: int
-    rows: tuple[Row, ...]
-    way: Way
 
 
 @dataclass(frozen=True, slots=True)
@@ -82,17 +73,13 @@ class Answer:
     fault: str = ""
 
 
-def message_of(text: str, matches: Sequence[int]) -> Tap | Asked:
-    """What a phone sent, of a reporter of these matches.
+def message_of(text: str, matches: Sequence[int]) -> Events | Asked:
+    """What a phone sent, of a reporter of these matches; events as those of reporter 0, since a
+    message does not say whose it is.
 
     Raises ValueError where it is nothing.
     """
-    try:
-        said = json.loads(text)
-    except RecursionError as error:
-        raise ValueError("it nests too deep") from error
-    if not isinstance(said, dict):
-        raise ValueError("it is no object")
+    said = members_of(text)
     if isinstance(said.get("events"), str):
         return Asked(_id(said["events"]))
     ways = [way for way in WAYS if way in said]
@@ -109,7 +96,7 @@ def message_of(text: str, matches: Sequence[int]) -> Tap | Asked:
     if expected + len(events) > LAST_NUMBER:
         raise ValueError("a match has no such number")
     rows = tuple(Row(match, expected + place, it) for place, it in enumerate(events))
-    return Tap(_id(said[ways[0]]), edition, rows, WAYS[ways[0]])
+    return Events(0, rows, edition, WAYS[ways[0]], _id(said[ways[0]]))
 
 
 class Reporter:
@@ -125,12 +112,12 @@ class Reporter:
         self.events = Allowance(MOST_EVENTS, MOST_MESSAGES)
         self._board = board
 
-    def may(self, message: Tap | Asked) -> bool:
+    def may(self, message: Events | Asked) -> bool:
         """Whether its phones may send this now. Who asks for all events is sent many."""
         cost = MOST_MESSAGES if isinstance(message, Asked) else len(message.rows)
         return self.events.takes(cost)
 
-    async def reply(self, message: Tap | Asked) -> bytes:
+    async def reply(self, message: Events | Asked) -> bytes:
         """The line that a phone is sent for what it sent."""
         if isinstance(message, Asked):
             await self._board.ready()
@@ -147,12 +134,11 @@ class Reporter:
             outcomes=[_members_of(it) for it in answer.outcomes],
         )
 
-    async def _answer(self, tap: Tap) -> Answer:
+    async def _answer(self, tap: Events) -> Answer:
         """Enters a tap, or says what became of it; the same to its id from then on. One that has
         not come by the time that it is asked about is never entered."""
         try:
-            sending = Events(self.number, tap.rows, tap.edition, tap.way, tap.id)
-            outcomes = await self._board.enter(sending)
+            outcomes = await self._board.enter(replace(tap, reporter=self.number))
         except Dropped:
             return _refusal("dropped")
         except Lost:

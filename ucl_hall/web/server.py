@@ -12,10 +12,11 @@ import ipaddress
 import itertools
 import logging
 import ssl
-from collections.abc import Awaitable, Callable, Collection, Sequence
+from collections.abc import AsyncIterator, Collection, Sequence
 from urllib.parse import urlsplit
 
 from aiohttp import WSMsgType, web
+from aiohttp.typedefs import Handler
 
 from ucl_hall.engine.json_lines import line_of
 from ucl_hall.text import printable
@@ -34,43 +35,38 @@ from ucl_hall.web.visitors import (
     WHOLE,
     Allowance,
     Places,
-    Visitor,
     Visitors,
     visitor_of,
 )
 
 # Seconds between pulses.
 PULSE = 1.0
-# The most bytes of a message, and the bytes of a page that are sent at once.
-LONGEST, PIECE = 1_024, 16_384
+# The most bytes of a message.
+LONGEST = 1_024
 # The most screens of an address, the most phones of a link, and of all links.
 SCREENS_OF_ONE, PHONES_OF_ONE, MOST_PHONES = 64, 8, 2_000
 # What who asks under a name that is not ours is told: a page of another host may have sent them.
 NO_NAME = "Open this by an address of the machine, or have it started with --url and this name.\n"
-Handler = Callable[[web.Request], Awaitable[web.StreamResponse]]
 
 
 class Server:
-    """What is served: groups, which may come later, those of them that have reporters, and those
-    who look on. `names` has those of this server, and `at` where all who serve them are."""
+    """What is served: groups, which may come later, and those who look on. `names` has those of
+    this server, and `at` where all who serve them are."""
 
     def __init__(
         self,
         groups: Sequence[Shown],
-        reported: Sequence[Group],
-        screens: Screens,
         title: str,
         most: int,
         names: Collection[str] = (),
         at: Sequence[str] = (),
     ) -> None:
-        self.groups, self.reported, self.screens, self.title = groups, reported, screens, title
+        self.groups, self.title, self.screens = groups, title, Screens()
         self.names = {name.lower() for name in names}
         self.fault, self._at = "", at
         self.notices = Notices()
         self._screens = Places(most, SCREENS_OF_ONE, newest_gives_way=True)
         self._phones = Places(MOST_PHONES, PHONES_OF_ONE)
-        self._files = {"/": Page("index.html", at), "/replay.jsonl": Page("replay.jsonl")}
         self._report = Page("report.html", at)
         self._hall, self._cut_off = b"", 0
         self._runner: web.AppRunner
@@ -90,8 +86,8 @@ class Server:
             return await handler(request)
 
         app = web.Application(middlewares=[named])
-        for path in self._files:
-            app.router.add_get(path, self._file)
+        app.router.add_get("/", Page("index.html", self._at).answer)
+        app.router.add_get("/replay.jsonl", Page("replay.jsonl").answer)
         app.router.add_get("/lines", self._lines)
         feed = Feed(self.groups, self.screens, self._screens, self._told)
         app.router.add_get("/feed", feed.answer, allow_head=False)
@@ -121,9 +117,14 @@ class Server:
         """Listens no more, and ends all connections."""
         self._visitors.close()
         self._pulsing.cancel()
-        for screens in (self.screens, *(group.phones for group in self.reported)):
+        for screens in (self.screens, *(group.phones for group in self._reported)):
             screens.abort()
         await self._runner.cleanup()
+
+    @property
+    def _reported(self) -> list[Group]:
+        """The groups that have reporters here."""
+        return [group for group in self.groups if isinstance(group, Group)]
 
     def _note(self, _: asyncio.AbstractEventLoop, about: dict[str, object]) -> None:
         """Keeps what went wrong outside any request, for who asks after it."""
@@ -136,7 +137,7 @@ class Server:
             line = self._pulse_line()
             if count % 2 == 0:
                 self._tell_screens(line)
-            for group in self.reported:
+            for group in self._reported:
                 if not group.record.over.done():
                     group.phones.send("pulse", line)
             await asyncio.sleep(PULSE / 2)
@@ -169,16 +170,13 @@ class Server:
         for group in self.groups:
             self.screens.send(group.letter, group.moment.line)
 
-    async def _file(self, request: web.Request) -> web.StreamResponse:
-        return await _sent(request, self._files[request.path])
-
     async def _health(self, request: web.Request) -> web.Response:
         groups = {group.letter: group.health() for group in self.groups}
         faults = [group.fault for group in self.groups if group.fault] + [self.fault]
         told = {
             "groups": groups,
             "screens": len(self.screens),
-            "reporters": sum(len(group.phones) for group in self.reported),
+            "reporters": sum(len(group.phones) for group in self._reported),
             "left_out": self.screens.left_out,
             "cut_off": self.notices.all_cut_off,
             "fault": faults[0],
@@ -191,12 +189,12 @@ class Server:
 
     async def _reporter_page(self, request: web.Request) -> web.StreamResponse:
         self._reporter(request)
-        return await _sent(request, self._report)
+        return await self._report.answer(request)
 
     def _reporter(self, request: web.Request) -> tuple[Group, Reporter]:
         """Whose key a request has. Raises that there is no such page where it is nobody's."""
         found = None
-        for group in self.reported:
+        for group in self._reported:
             reporter = group.reporter_of(request.match_info["key"])
             found = found if reporter is None else (group, reporter)
         if found is None:
@@ -206,18 +204,11 @@ class Server:
     async def _lines(self, request: web.Request) -> web.StreamResponse:
         """A screen: it is sent lines, and sends none."""
         self._check_origin(request)
-        visitor = visitor_of(request)
-        place = self._screens, visitor.address
-        stream, screen = await _opened(request, visitor, *place, Allowance(OF_SCREEN, 0))
-        greeting = [group.moment.line for group in self.groups]
-        for line in self._hall, *greeting, self._pulse_line():
-            screen.write(frame_of(line))
-        self.screens.add(screen)
-        try:
-            await stream.receive()
-        finally:
-            self.screens.remove(screen)
-            visitor.stay_no_longer()
+        place = self._screens, visitor_of(request).address
+        async with _opened(request, *place, Allowance(OF_SCREEN, 0)) as (stream, screen):
+            moments = [group.moment.line for group in self.groups]
+            with self.screens.having(screen, self._hall, *moments, self._pulse_line()):
+                await stream.receive()
         return stream
 
     def _hall_line(self) -> bytes:
@@ -247,30 +238,26 @@ class Server:
             reporter.pages[page].end()
         reporter.pages[page] = visitor
         try:
-            stream, phone = await _opened(request, visitor, self._phones, link, reporter.bytes)
-            await self._take_taps(stream, phone, group, reporter)
+            async with _opened(request, self._phones, link, reporter.bytes) as (stream, phone):
+                with group.having(phone, reporter, self.title):
+                    self._count(group, reporter)
+                    await self._take_taps(stream, phone, reporter)
         finally:
             if reporter.pages.get(page) is visitor:
                 del reporter.pages[page]
-            visitor.stay_no_longer()
             self._count(group, reporter)
         return stream
 
     async def _take_taps(
-        self, stream: web.WebSocketResponse, phone: Screen, group: Group, reporter: Reporter
+        self, stream: web.WebSocketResponse, phone: Screen, reporter: Reporter
     ) -> None:
         tasks: set[asyncio.Task[None]] = set()
-        group.greet(phone, reporter, self.title)
-        self._count(group, reporter)
-        try:
-            async for message in stream:
-                if message.type != WSMsgType.TEXT or not reporter.messages.takes(1):
-                    return
-                task = asyncio.create_task(self._answer(phone, reporter, message.data))
-                tasks.add(task)
-                task.add_done_callback(tasks.discard)
-        finally:
-            group.part(phone, reporter)
+        async for message in stream:
+            if message.type != WSMsgType.TEXT or not reporter.messages.takes(1):
+                return
+            task = asyncio.create_task(self._answer(phone, reporter, message.data))
+            tasks.add(task)
+            task.add_done_callback(tasks.discard)
 
     def _count(self, group: Group, reporter: Reporter) -> None:
         """Tells how many phones have a link."""
@@ -311,34 +298,19 @@ class Server:
         return False
 
 
+@contextlib.asynccontextmanager
 async def _opened(
-    request: web.Request, visitor: Visitor, places: Places, owner: str, allowance: Allowance
-) -> tuple[web.WebSocketResponse, Screen]:
-    """The WebSocket of a request, and the connection that frames are written to, which stays.
-
-    Raises that the service is not available where there is no place for it.
-    """
+    request: web.Request, places: Places, owner: str, allowance: Allowance
+) -> AsyncIterator[tuple[web.WebSocketResponse, Screen]]:
+    """The WebSocket of a request, and the connection that frames are written to, which stays until
+    the block ends. Raises that there is no place for it."""
     stream = web.WebSocketResponse(max_msg_size=LONGEST, compress=False, timeout=1.0)
     if not stream.can_prepare(request).ok:
         raise web.HTTPBadRequest
-    if not visitor.stay(places, owner, allowance):
-        raise web.HTTPServiceUnavailable
-    await stream.prepare(request)
-    assert isinstance(request.transport, asyncio.WriteTransport)
-    return stream, Screen(request.transport)
-
-
-async def _sent(request: web.Request, page: Page) -> web.StreamResponse:
-    """Sends a page in pieces, each once the one before is on its way: a slow reader costs little."""
-    headers = {"Content-Security-Policy": page.policy}
-    response = web.StreamResponse(headers=headers)
-    response.content_type, response.charset = page.kind, "utf-8"
-    response.content_length = len(page.body)
-    await response.prepare(request)
-    for at in range(0, len(page.body) if request.method == "GET" else 0, PIECE):
-        await response.write(page.body[at : at + PIECE])
-    await response.write_eof()
-    return response
+    with visitor_of(request).staying(places, owner, allowance):
+        await stream.prepare(request)
+        assert isinstance(request.transport, asyncio.WriteTransport)
+        yield stream, Screen(request.transport)
 
 
 async def _head(_: web.Request, response: web.StreamResponse) -> None:

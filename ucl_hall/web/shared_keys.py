@@ -10,7 +10,6 @@ import re
 import secrets
 from base64 import b64decode
 from collections.abc import AsyncIterator, Callable, Collection, Mapping
-from typing import Protocol
 
 from ucl_hall.faults import NotDone, Unreached
 from ucl_hall.record.cluster import Address, Cluster
@@ -23,36 +22,6 @@ LOOK = 1.0
 _KEY = re.compile(rb".*/([0-9]{3})")
 _VALUE = re.compile("[0-9a-f]{32}")
 Take = Callable[[Mapping[int, str]], None]
-
-
-class Keys(Protocol):
-    """Keys of a record that is served, by the numbers of reporters."""
-
-    async def of(
-        self, numbers: Collection[int], revoked: Collection[int], *, all_new: bool
-    ) -> dict[int, str]:
-        """The keys of these reporters, which are made where they have none.
-
-        Those of `revoked` end before, or all that there are. Raises Over, and OSError of a file.
-        """
-
-    def follow(self, take: Take) -> None:
-        """Hands on what they have become, if anybody else ends them."""
-
-
-class OwnKeys:
-    """Keys in a file, which this program alone changes."""
-
-    def __init__(self, own: keys.Keys) -> None:
-        self._own = own
-
-    async def of(
-        self, numbers: Collection[int], revoked: Collection[int], *, all_new: bool
-    ) -> dict[int, str]:
-        return self._own.of(numbers, revoked, all_new=all_new)
-
-    def follow(self, take: Take) -> None:
-        """Nobody else does."""
 
 
 class SharedKeys:
@@ -76,6 +45,10 @@ class SharedKeys:
     async def of(
         self, numbers: Collection[int], revoked: Collection[int], *, all_new: bool
     ) -> dict[int, str]:
+        """The keys of these reporters, which are made where they have none.
+
+        Those of `revoked` end before, or all that there are. Raises Unreached, NotDone and Over.
+        """
         self._numbers = [*numbers]
         single = [{"key": text64(self._named(number))} for number in sorted(revoked)]
         for ended in [self._range()] if all_new else single:
@@ -83,6 +56,8 @@ class SharedKeys:
         return await self._made()
 
     def follow(self, take: Take) -> None:
+        """Hands on what they have become, if another server ends them."""
+
         async def work() -> None:
             while True:
                 await asyncio.sleep(LOOK)
@@ -91,7 +66,7 @@ class SharedKeys:
 
         self._following = asyncio.create_task(work())
 
-    async def close(self) -> None:
+    async def aclose(self) -> None:
         """Asks no more."""
         if self._following is not None:
             self._following.cancel()
@@ -117,31 +92,29 @@ class SharedKeys:
         return {"key": text64(self._prefix), "range_end": text64(f"{self._prefix[:-1]}0")}
 
 
+# Keys of a record that is served, by the numbers of reporters.
+Keys = keys.Keys | SharedKeys
+
+
 @contextlib.asynccontextmanager
 async def keys_held(place: str) -> AsyncIterator[Keys]:
     """Holds the keys of a record that is served, until the block ends.
 
     Raises Over, and OSError of a file.
     """
-    if not is_in_etcd(place):
+    if is_in_etcd(place):
+        async with contextlib.aclosing(SharedKeys(place)) as shared:
+            yield shared
+    else:
         with keys.held(place) as own:
-            yield OwnKeys(own)
-        return
-    shared = SharedKeys(place)
-    try:
-        yield shared
-    finally:
-        await shared.close()
+            yield own
 
 
 def keys_of(place: str) -> dict[int, str]:
     """The keys that a record has by now. Raises Over, and OSError of a file."""
 
     async def read() -> dict[int, str]:
-        shared = SharedKeys(place)
-        try:
+        async with contextlib.aclosing(SharedKeys(place)) as shared:
             return await shared.read()
-        finally:
-            await shared.close()
 
     return asyncio.run(read()) if is_in_etcd(place) else keys.keys_of(place)

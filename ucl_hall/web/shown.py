@@ -1,37 +1,53 @@
 """A group that is shown, wherever its board is: on this machine, or behind another server."""
 
+import abc
+import asyncio
 from collections.abc import Sequence
-from typing import Protocol
 
 from aiohttp import web
 
 from ucl_hall.engine.answers import Moment
+from ucl_hall.engine.follow import Follow
+from ucl_hall.program import text_of
+from ucl_hall.record.record import Record
+from ucl_hall.text import warn
 
 
-class Shown(Protocol):
-    """A group that is shown to whoever looks on."""
+class Shown(abc.ABC):
+    """A group that is shown to whoever looks on. `fault` says why its board can be followed no more;
+    it is empty where it can."""
 
-    @property
-    def letter(self) -> str:
-        """Its letter."""
-
-    @property
-    def fault(self) -> str:
-        """By what its board can be followed no more; empty where it can."""
+    def __init__(self, letter: str, board: Record | Follow) -> None:
+        self.letter, self.fault, self._board = letter, "", board
+        board.over.add_done_callback(self._end)
 
     @property
     def moment(self) -> Moment:
         """The newest moment that is here."""
+        return self._board.moment
 
     @property
+    @abc.abstractmethod
     def silence(self) -> int:
         """For how many seconds nothing is known of its board; 0 while it is there."""
 
+    @abc.abstractmethod
     def tonight(self) -> list[int] | None:
         """The matches of the evening, where somebody has named them."""
 
+    @abc.abstractmethod
+    def more(self) -> dict[str, object]:
+        """What whoever watches it is told besides."""
+
     def health(self) -> dict[str, object]:
         """What whoever watches it is told."""
+        age = {"edition": self.moment.edition, "version": self.moment.version}
+        return {**age, "is_there": not self.silence, **self.more(), "fault": self.fault}
+
+    def _end(self, over: asyncio.Future[None]) -> None:
+        if not over.cancelled():
+            self.fault = text_of(over.exception())
+            warn(f"ucl_serve: group {self.letter}: {self.fault}")
 
 
 def asked(request: web.Request, groups: Sequence[Shown]) -> list[Shown]:

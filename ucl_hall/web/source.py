@@ -1,13 +1,12 @@
 """Where the lines of a mirror come from: the feed of another server, or standard input."""
 
 import asyncio
-import contextlib
 import os
-import threading
 from collections.abc import Awaitable, Callable
 
 import aiohttp
 
+from ucl_hall.program import read_input
 from ucl_hall.text import warn
 from ucl_hall.web.feed import KIND
 
@@ -18,10 +17,6 @@ LONGEST = 4_096
 SILENCE, PAUSE = 5.0, 1.0
 PIECE = 1 << 16
 INPUT = "-"
-
-
-class _NoFeed(Exception):
-    """An address has something else."""
 
 
 class Lines:
@@ -57,23 +52,22 @@ async def _follow_feed(url: str, take: Take) -> None:
         while True:
             try:
                 async with session.get(url, headers={"Accept-Encoding": "identity"}) as answer:
-                    if answer.status != 200 or answer.content_type != KIND:
-                        raise _NoFeed(f"it answers {answer.status}, and no feed")
-                    if told:
-                        warn(f"ucl_serve: {url}: it is there again")
-                        told = False
-                    lines = Lines(take)
-                    async for piece in answer.content.iter_any():
-                        await lines.add(piece)
-                why = "it has ended"
-            except (_NoFeed, aiohttp.ClientSSLError) as error:
+                    if answer.status == 200 and answer.content_type == KIND:
+                        if told:
+                            warn(f"ucl_serve: {url}: it is there again")
+                            told = False
+                        lines = Lines(take)
+                        async for piece in answer.content.iter_any():
+                            await lines.add(piece)
+                        why = "it has ended"
+                    else:
+                        why = f"it answers {answer.status}, and no feed"
+            except aiohttp.ClientSSLError as error:
                 why = str(error)
             except (aiohttp.ClientConnectionError, OSError):
                 why = "no connection"
             except aiohttp.ClientError:
                 why = "it has ended"
-            except asyncio.TimeoutError:
-                why = "nothing comes"
             if not told:
                 warn(f"ucl_serve: {url}: {why}; it is tried again until it is there")
                 told = True
@@ -81,27 +75,7 @@ async def _follow_feed(url: str, take: Take) -> None:
 
 
 async def _follow_input(take: Take) -> None:
-    pieces: asyncio.Queue[bytes] = asyncio.Queue()
-    loop, room = asyncio.get_running_loop(), threading.Semaphore(4)
-
-    def read() -> None:
-        # The loop may be over meanwhile: a read of a pipe can not be ended.
-        with contextlib.suppress(RuntimeError):
-            while piece := _piece():
-                room.acquire()
-                loop.call_soon_threadsafe(pieces.put_nowait, piece)
-            loop.call_soon_threadsafe(pieces.put_nowait, b"")
-
-    threading.Thread(target=read, daemon=True).start()
     lines = Lines(take)
-    while piece := await pieces.get():
+    async for piece in read_input(lambda: os.read(0, PIECE)):
         await lines.add(piece)
-        room.release()
     warn("ucl_serve: standard input has ended: nothing newer comes from there")
-
-
-def _piece() -> bytes:
-    """What comes next on standard input; nothing at its end, and where it can not be read."""
-    with contextlib.suppress(OSError):
-        return os.read(0, PIECE)
-    return b""

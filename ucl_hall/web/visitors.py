@@ -13,7 +13,6 @@ import struct
 import time
 from collections import deque
 from collections.abc import Callable, Iterator
-from typing import Any
 
 from aiohttp import web
 
@@ -135,19 +134,20 @@ class Visitor(asyncio.Protocol):
             other.cut_off()
         return other is not self
 
-    def stay(self, places: Places, owner: str, allowance: Allowance) -> bool:
-        """Has it stay, with what it may send from now on. False where there is no place for it."""
+    @contextlib.contextmanager
+    def staying(self, places: Places, owner: str, allowance: Allowance) -> Iterator[None]:
+        """Has it stay until the block ends, with what it may send from now on; then its place is
+        free, and it is over in ten seconds again. Raises that there is no place for it."""
         if not self.take(places, owner):
-            return False
+            raise web.HTTPServiceUnavailable
         self._timer.cancel()
         self._stays, self._allowance = True, allowance
-        return True
-
-    def stay_no_longer(self) -> None:
-        """Has one that stays be over in ten seconds again. Its place is free from now on."""
-        if self._stays and self._transport is not None:
-            self._leave()
-            self._timer = asyncio.get_running_loop().call_later(WHOLE, self.end)
+        try:
+            yield
+        finally:
+            if self._transport is not None:
+                self._leave()
+                self._timer = asyncio.get_running_loop().call_later(WHOLE, self.end)
 
     def cut_off(self) -> None:
         """Ends it at once, which the operator is told."""
@@ -245,7 +245,9 @@ class Visitor(asyncio.Protocol):
         await asyncio.sleep(0)
         encryption = raw.get_protocol()
         assert isinstance(encryption, asyncio.BufferedProtocol)
-        raw.set_protocol(_Counted(encryption, self))
+        take = encryption.buffer_updated
+        # Not all that comes is of a message, so it is counted here.
+        setattr(encryption, "buffer_updated", lambda count: self.may_send(count) and take(count))
         transport = await agreeing
         assert transport is not None
         return transport
@@ -274,32 +276,6 @@ class Visitor(asyncio.Protocol):
             places, owner = self._place
             self._place = None
             places.leave(owner, self)
-
-
-class _Counted(asyncio.BufferedProtocol):
-    """An encryption of which each byte that comes is counted: not all of them are of a message."""
-
-    def __init__(self, encryption: asyncio.BufferedProtocol, visitor: Visitor) -> None:
-        self._encryption, self._visitor = encryption, visitor
-
-    def get_buffer(self, sizehint: int) -> Any:
-        return self._encryption.get_buffer(sizehint)
-
-    def buffer_updated(self, nbytes: int) -> None:
-        if self._visitor.may_send(nbytes):
-            self._encryption.buffer_updated(nbytes)
-
-    def eof_received(self) -> bool | None:
-        return self._encryption.eof_received()
-
-    def connection_lost(self, exc: Exception | None) -> None:
-        self._encryption.connection_lost(exc)
-
-    def pause_writing(self) -> None:
-        self._encryption.pause_writing()
-
-    def resume_writing(self) -> None:
-        self._encryption.resume_writing()
 
 
 class Visitors:
