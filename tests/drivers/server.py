@@ -22,7 +22,7 @@ def got(
 ) -> tuple[int, dict[str, str], str]:
     """The status, the headers and the body of an answer to who asks with these lines more."""
     lines = [f"GET {path} HTTP/1.1", *[f"Host: 127.0.0.1:{port}"] * host, *headers]
-    with socket.create_connection(("127.0.0.1", port), 15, (source, 0)) as one:
+    with socket.create_connection(("127.0.0.1", port), 30, (source, 0)) as one:
         one.sendall("\r\n".join([*lines, "", ""]).encode())
         answer = b"".join(iter(lambda: one.recv(1 << 16), b""))
     head, _, body = answer.partition(b"\r\n\r\n")
