@@ -409,7 +409,7 @@ def test_taps_and_answers(hall):
     for phone, own in zip((*phones, second), (2, 1, 1)):
         assert len([it for it in phone.lines if it["reply"] == "answer"]) == own
     there = {"is_there": True, "phones": {"1": 2, "2": 1}, "fault": ""}
-    assert one.health()["groups"]["A"] == {"edition": 0, "version": 3, "rows": 9, **there}
+    assert one.health()["groups"]["A"] == {"edition": 0, "version": 3, "rows": 8, **there}
 
 
 @pytest.mark.quick
