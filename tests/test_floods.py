@@ -103,11 +103,8 @@ def flooded(hall, control, flood, words, told, **how):
         for phone in *phones, elsewhere:
             phone.is_over.set()
             phone.join(30)
-    (most, longest), (other, other_longest), memory = (
-        took(phones),
-        took([elsewhere]),
-        most_memory(hall),
-    )
+    (most, longest), (other, other_longest) = took(phones), took([elsewhere])
+    memory = most_memory(hall)
     print(f"{flood.__name__}: {most:.3f} s, the longest {longest:.3f} s, {memory >> 20} MB")
     assert most < max(WITHIN * patience(), 10 * other)
     assert longest < max(LONG * patience(), 10 * other_longest) and memory < MOST_MEMORY
@@ -244,7 +241,7 @@ def has_room(one):
     """For a new phone, and for who watches it."""
     assert until(lambda: one.health()["cut_off"] > 100, 60)
     with within(2):
-        assert one.phone(2).until("pulse") and one.screen().status == 101
+        assert one.phone(9).until("pulse") and one.screen().status == 101
 
 
 def has_few_files(one):
@@ -347,5 +344,5 @@ def test_who_is_slow_is_gone_in_ten_seconds(hall, asked):
         with contextlib.suppress(ConnectionError):
             while time.monotonic() - begun < 25 and slow.recv(100):
                 time.sleep(0.5)
-        most = min(25, 10 + 3 * patience())
+        most = min(25, 12 + 3 * patience())
         assert (0 if asked == OWES else 8) < time.monotonic() - begun < most
