@@ -8,7 +8,9 @@ import time
 from collections.abc import Callable, Iterator
 from typing import Any
 
+import model
 import pytest
+from drivers.board import lines_to
 from drivers.feed import Feed
 from drivers.mirror import Mirror
 from drivers.port import free_port
@@ -16,14 +18,14 @@ from drivers.program import command
 from drivers.server import got, health
 from drivers.wait import until
 from drivers.websocket import Socket
-from feeds import lines_of
 
 pytestmark = pytest.mark.limit(200)
 Halls = Callable[..., Any]
 Mirrors = Callable[..., Mirror]
 # A match of some events, in rows behind the clubs.
 ROWS = ["1,1,0,kickoff", *(f"1,1,{it},goal-{'home' if it % 2 else 'away'}" for it in range(1, 40))]
-LINES = lines_of("".join(row + "\n" for row in ROWS))
+ANSWERS = lines_to(model.CLUBS + "".join(row + "\n" for row in ROWS))
+LINES = [line.decode() for line in ANSWERS if b'"screen"' in line]
 PULSE = json.dumps({"reply": "pulse", "groups": "A", "moments": {"A": [0, len(LINES)]}})
 
 
@@ -188,7 +190,8 @@ def test_a_server_that_is_none(mirrors: Mirrors, hall: Halls) -> None:
 
 
 def test_lines_of_a_pipe_in_any_order(mirrors: Mirrors, follow: str) -> None:
-    """What is shown is what `ucl_follow` shows of them: lost, repeated, reordered, cut off."""
+    """Lost, repeated, reordered, cut off: what `ucl_follow` shows of them last is shown, and before
+    it none but what that shows, in its order."""
     chance = random.Random(2021)
     for _ in range(3):
         lines = [line for line in LINES for _ in range(chance.choice([0, 1, 1, 2]))]
@@ -198,29 +201,17 @@ def test_lines_of_a_pipe_in_any_order(mirrors: Mirrors, follow: str) -> None:
         lines.insert(7, LINES[20][:500])
         text = "".join(line + "\n" for line in lines)
         wanted = command([follow, "--format", "json"], text).output.splitlines()
-        mirror = mirrors("--follow", "-")
+        mirror, expected = mirrors("--follow", "-"), [json.loads(line) for line in wanted]
+        feed = Feed(mirror.port)
         put(mirror, lines)
-        last = json.loads(wanted[-1])
+        feed.until("screen", version=expected[-1]["version"])
+        shown = [it for it in feed.lines if it["reply"] == "screen"]
         # A line that is cut off is none of a group, and has no number there.
-        del last["row"]
-        assert mirror.shows(last["version"]) and table(mirror) == last
-
-
-def test_lines_of_a_pipe_as_they_come(mirrors: Mirrors, follow: str) -> None:
-    """Each that is shown is one of those of `ucl_follow`, in their order."""
-    lines = [*LINES[:5], LINES[2], *LINES[8:4:-1], LINES[30], *LINES[9:31], LINES[31]]
-    text = "".join(line + "\n" for line in lines)
-    wanted = command([follow, "--format", "json"], text).output.splitlines()
-    mirror = mirrors("--follow", "-")
-    put(mirror, lines[:1])
-    assert mirror.shows(1)
-    feed, shown = Feed(mirror.port), 1
-    for line in lines[1:]:
-        put(mirror, [line])
-        if (version := json.loads(line)["version"]) > shown:
-            shown = version
-            feed.until("screen", version=shown)
-    assert [it for it in feed.lines if it["reply"] == "screen"] == [json.loads(it) for it in wanted]
+        for said in (*shown, *expected):
+            del said["row"]
+        assert mirror.shows(expected[-1]["version"]) and table(mirror) == expected[-1]
+        rest = iter(expected)
+        assert shown and all(said in rest for said in shown)
 
 
 def test_a_pipe_that_loses_the_last_line(mirrors: Mirrors) -> None:

@@ -456,8 +456,8 @@ def test_a_mend_while_phones_look_on(hall):
 
 
 def test_messages_that_are_no_taps(hall):
-    """Each closes its connection, and enters nothing. Each is of a link of its own: those of one link are counted together."""
-    one = hall(*[word for number in range(1, 8) for word in ("--reporter", f"{number}:1")])
+    """Each closes its connection, and enters nothing; so does one more than twenty at once. Each is of a link of its own: those of one link are counted together."""
+    one = hall(*[word for number in range(1, 9) for word in ("--reporter", f"{number}:1")])
     tap = {"tap": "ab" * 16, "edition": 0, "match": 1, "expected": 0, "event": "kickoff"}
     whole = json.dumps(tap)
     for number, (text, opcode) in enumerate(
@@ -474,16 +474,11 @@ def test_messages_that_are_no_taps(hall):
     screen.send(whole)
     assert screen.is_closed() and one.rows() == []
     assert one.phone(7).answer(1, 0, "kickoff") == "entered"
-
-
-def test_more_messages_than_may_be(hall):
-    one = hall("--reporter", "1")
-    phone = one.phone(1)
+    phone = one.phone(8)
     for _ in range(40):
         with contextlib.suppress(ConnectionError):
             phone.tap(1, 9, "goal-home")
-    assert phone.is_closed()
-    assert len([line for line in phone.lines if line["reply"] == "answer"]) <= 20
+    assert phone.is_closed() and [it["reply"] for it in phone.lines].count("answer") <= 20
 
 
 HOSTILE = [
