@@ -215,10 +215,10 @@ class Sheet:
         self.reload()
 
     def reload(self):
-        """Opens the page again, with a clock that tests can put ahead, and one that somebody has set back. No WebSocket is opened from a file, so no timer runs."""
+        """Opens the page again, with a clock that stands still until a test puts it ahead, and one that somebody has set back. No WebSocket is opened from a file, so no timer runs."""
         self.browser.refresh()
         self.run(
-            f"open = () => {{}}; window.ahead = 0; const now = performance.now.bind(performance); performance.now = () => now() + 1000 * ahead; Date.now = () => 0; {SHOWN} {INKS} {LOOK}"
+            f"open = () => {{}}; window.ahead = 0; const begun = performance.now(); performance.now = () => begun + 1000 * ahead; Date.now = () => 0; {SHOWN} {INKS} {LOOK}"
         )
 
     def resize(self, size):
