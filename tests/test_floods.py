@@ -269,7 +269,8 @@ def has_eight_phones(one):
     """Eight of a link have a place, of which the oldest gives way; all of them together may send what one may."""
     begun = time.monotonic()
     time.sleep(SECONDS - 1)
-    assert one.health()["groups"]["A"]["phones"]["9"] <= 8
+    # One that gives way is counted until it has gone.
+    assert until(lambda: one.health()["groups"]["A"]["phones"]["9"] <= 8)
     refused = len([row for row in one.rows() if row.startswith("9,")])
     assert refused <= 20 * (time.monotonic() - begun + 3)
 
