@@ -30,15 +30,14 @@ def test_the_screen_first_then_each_newer_and_pulses(hall: Halls) -> None:
     one = hall("--reporter", "1:1,2", "--title", "Finals")
     feed, page = Feed(one.port), one.screen()
     assert feed.answer.getheader("Content-Type") == "application/x-ndjson"
-    phone = one.phone(1)
+    phone, begun = one.phone(1), time.monotonic()
     for number, event in enumerate(["kickoff", "goal-home", "goal-away"]):
         assert phone.answer(1, number, event) == "entered"
-    begun = time.monotonic()
     for version in (1, 2, 3):
         assert feed.until("screen", version=version) == page.until("screen", version=version)
     for _ in range(3):
         assert feed.until("pulse", groups="A")["moments"] == {"A": [0, 3]}
-    assert 1.5 < time.monotonic() - begun < 15
+    assert 1.5 < time.monotonic() - begun < 30
     assert [feed.lines[0]["reply"], feed.lines[0]["version"]] == ["screen", 0]
     named = {"reply": "hall", "title": "Finals", "groups": "A", "tonight": {"A": [1, 2]}}
     assert named in feed.lines and page.lines[0] == named

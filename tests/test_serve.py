@@ -426,7 +426,7 @@ def test_how_many_phones_a_link_has(hall):
     assert first.is_closed() and again.until("phones")["count"] == 2
     assert again.answer(1, 0, "kickoff") == "entered"
     second.socket.close()
-    assert again.until("phones")["count"] == 1
+    assert again.until("phones", count=1)
     more = [one.phone(1) for _ in range(8)]
     assert again.is_closed() and more[0].until("phones", count=8)
     assert more[0].answer(1, 1, "goal-home") == "entered"
