@@ -301,6 +301,7 @@ def test_a_follower_is_killed_before_it_has_read(mirrors: Mirrors) -> None:
         os.kill(child, signal.SIGKILL)
         assert mirror.shows(version)
     assert versions(feed, 11) == [*range(1, 12)]
+    assert mirror.end(signal.SIGTERM) == (0, "", "")
 
 
 def test_a_long_pipe_takes_no_memory(mirrors: Mirrors) -> None:

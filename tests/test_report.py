@@ -147,6 +147,8 @@ def test_what_is_shown_of_a_match(page: Page) -> None:
     shown = [page.text(it) for it in ("line", "home", "away", "goals", "away-cards")]
     assert shown == ["Reporter 1, group B", "Bravo", "Charlie", "1\N{EN DASH}0", "yellow 1"]
     assert page.text("last") == "In play. Yellow card, Charlie, by reporter 2"
+    page.begin(STARTED + "1,1,3,second-yellow-away\n")
+    assert page.text("away-cards") == "red 1"
     page.run("choose(2)")
     assert page.text("goals") == "v" and page.text("last") == "To come."
     page.hear({"reply": "phones", "count": 2}, ME | {"title": "Finals"})
@@ -336,6 +338,7 @@ def test_names_and_roles(page: Page) -> None:
     page.begin(STARTED, matches=[1, 2])
     page.click("goal-home")
     page.answer("entered", "Entered, 2\N{EN DASH}0")
+    page.begin(STARTED + "1,1,3,goal-home\n", matches=[1, 2])
     told: dict[str, dict[str, tuple[Any, Any]]] = {}
     for node in page.cdp("Accessibility.getFullAXTree")["nodes"]:
         role, name, note = (
@@ -346,13 +349,13 @@ def test_names_and_roles(page: Page) -> None:
     names = ["Goal", "Disallow goal", "Yellow card", "Second yellow", "Red card"]
     wanted = {f"{name}, {club}" for name in names for club in ("Bravo", "Charlie")}
     buttons = told["button"]
-    assert wanted | {"Kick-off", "Full time", "Reopen"} <= {*buttons}
+    assert wanted | {"Kick-off", "Full time", "Reopen", "Take back"} <= {*buttons}
     assert all(about.get("focusable") for about, _ in buttons.values())
     about, note = buttons["Disallow goal, Charlie"]
     assert about["disabled"] is True and note == "No goal to take away"
     about, note = buttons["Goal, Bravo"]
     assert not about.get("disabled") and note == "\u2713 Entered, 2\N{EN DASH}0"
-    sections = {"Your matches", "Bravo 1\N{EN DASH}0 Charlie", "Group B, as it stands"}
+    sections = {"Your matches", "Bravo 2\N{EN DASH}0 Charlie", "Group B, as it stands"}
     assert {*told["link"]} == {"Matches", "Events", "Table"} and {*told["region"]} == sections
     assert {*told["heading"]} == sections | {"Reporter 1, group B", "Last ten events"}
     assert [*told["rowheader"]] == ["Bravo", "Delta", "Alpha", "Charlie"]

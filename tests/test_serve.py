@@ -457,13 +457,14 @@ def test_a_mend_while_phones_look_on(hall):
 
 def test_messages_that_are_no_taps(hall):
     """Each closes its connection, and enters nothing; so does one more than twenty at once. Each is of a link of its own: those of one link are counted together."""
-    one = hall(*[word for number in range(1, 9) for word in ("--reporter", f"{number}:1")])
+    one = hall(*[word for number in range(1, 10) for word in ("--reporter", f"{number}:1")])
     tap = {"tap": "ab" * 16, "edition": 0, "match": 1, "expected": 0, "event": "kickoff"}
     whole = json.dumps(tap)
     for number, (text, opcode) in enumerate(
         [
             *((json.dumps({**tap, "match": 2}), 0x81), ("[" * 1000, 0x81), ("x" * 1025, 0x81)),
-            *((whole[:-1] + " " * 1024 + "}", 0x81), (whole, 0x82), (whole, 0xC1)),
+            *((whole[:-1] + " " * 1024 + "}", 0x81), (whole, 0x82), (whole, 0x83)),
+            (whole, 0xC1),
         ],
         1,
     ):
@@ -473,8 +474,8 @@ def test_messages_that_are_no_taps(hall):
     screen = one.screen()
     screen.send(whole)
     assert screen.is_closed() and one.rows() == []
-    assert one.phone(7).answer(1, 0, "kickoff") == "entered"
-    phone = one.phone(8)
+    assert one.phone(8).answer(1, 0, "kickoff") == "entered"
+    phone = one.phone(9)
     for _ in range(40):
         with contextlib.suppress(ConnectionError):
             phone.tap(1, 9, "goal-home")
