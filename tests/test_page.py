@@ -222,11 +222,13 @@ class Sheet:
         )
 
     def resize(self, size):
-        """Makes the window as large as this."""
+        """Makes the window as large as this, and waits until the page has been told, which is before a frame is drawn."""
         sides = dict(zip(["width", "height"], size))
         how = {**sides, "deviceScaleFactor": 1, "mobile": False}
         self.cdp("Emulation.setDeviceMetricsOverride", how)
         assert until(lambda: self.run("return [innerWidth, innerHeight]") == [*size])
+        frame = "requestAnimationFrame(() => requestAnimationFrame(arguments[0]))"
+        self.browser.execute_async_script(frame)
 
     def fonts(self):
         """Of the fonts those that are installed; where none is, it skips the test."""

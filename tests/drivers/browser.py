@@ -25,4 +25,7 @@ def browser_of(folder: pathlib.Path) -> Any:
         options.add_argument(word)
     env = {**os.environ, "HOME": str(folder)}
     service = webdriver.chrome.service.Service(shutil.which("chromedriver"), env=env)
-    return webdriver.Chrome(service=service, options=options)
+    browser = webdriver.Chrome(service=service, options=options)
+    # A test ends by its own limit, and not while a slow machine draws.
+    browser.set_script_timeout(600)
+    return browser
