@@ -19,7 +19,7 @@ from drivers.program import Started
 from drivers.text import TOP
 from drivers.wait import until
 
-pytestmark = pytest.mark.limit(200)
+pytestmark = pytest.mark.limit(400)
 PAGE = TOP / "ucl_hall/web/pages/index.html"
 LARGE = (1920, 1080)
 # How large names, figures and scores of the season are at least at each size: of one group, and on the wall.

@@ -13,7 +13,7 @@ from drivers.phone import OFFLINE, SIZES, Phone
 from drivers.text import TOP
 from drivers.wait import until
 
-pytestmark = [pytest.mark.quick, pytest.mark.limit(200)]
+pytestmark = [pytest.mark.quick, pytest.mark.limit(300)]
 PAGE = TOP / "ucl_hall/web/pages/report.html"
 BEGUN = f"group,B,uefa,0\n{model.CLUBS}"
 STARTED = BEGUN + "1,1,0,kickoff\n1,1,1,goal-home\n2,1,2,yellow-away\n"
