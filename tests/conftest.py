@@ -17,6 +17,7 @@ from typing import Any
 
 import hypothesis
 import pytest
+from drivers.browser import browser_of
 from drivers.case import Case as Case
 from drivers.case import Has as Has
 from drivers.case import Unproved, differs
@@ -246,3 +247,24 @@ def hall(tmp_path: pathlib.Path, live: str) -> Iterator[Callable[..., Server]]:
     yield started
     for one in servers:
         one.kill()
+
+
+@pytest.fixture(scope="module")
+def browsers(tmp_path_factory: pytest.TempPathFactory) -> Iterator[Callable[[str], Any]]:
+    """A function that gives a browser by a name, which stays for all tests of a file."""
+    begun: dict[str, Any] = {}
+
+    def named(name: str) -> Any:
+        if name not in begun:
+            begun[name] = browser_of(tmp_path_factory.mktemp(name))
+        return begun[name]
+
+    yield named
+    for one in begun.values():
+        one.quit()
+
+
+@pytest.fixture(scope="module")
+def browser(browsers: Callable[[str], Any]) -> Any:
+    """A browser, which is one for all tests of a file."""
+    return browsers("browser")

@@ -1,5 +1,6 @@
 """The feed of a server, and the table once: for whoever draws it by a program of their own."""
 
+import contextlib
 import itertools
 import json
 import os
@@ -13,9 +14,12 @@ from typing import Any
 
 import model
 import pytest
-from conftest import TOP, Started, command, free_port, is_reached, lines_to_type, needs
-from feeds import Feed, got, health, until
-from test_serve import hall as hall
+from drivers.feed import Feed
+from drivers.port import free_port, is_reached
+from drivers.program import Started, command, needs
+from drivers.server import got, health
+from drivers.text import TOP, lines_to_type
+from drivers.wait import until
 
 pytestmark = pytest.mark.limit(200)
 Halls = Callable[..., Any]
@@ -26,15 +30,14 @@ def test_the_screen_first_then_each_newer_and_pulses(hall: Halls) -> None:
     one = hall("--reporter", "1:1,2", "--title", "Finals")
     feed, page = Feed(one.port), one.screen()
     assert feed.answer.getheader("Content-Type") == "application/x-ndjson"
-    phone = one.phone(1)
+    phone, begun = one.phone(1), time.monotonic()
     for number, event in enumerate(["kickoff", "goal-home", "goal-away"]):
         assert phone.answer(1, number, event) == "entered"
-    begun = time.monotonic()
     for version in (1, 2, 3):
         assert feed.until("screen", version=version) == page.until("screen", version=version)
     for _ in range(3):
         assert feed.until("pulse", groups="A")["moments"] == {"A": [0, 3]}
-    assert 1.5 < time.monotonic() - begun < 6
+    assert 1.5 < time.monotonic() - begun < 30
     assert [feed.lines[0]["reply"], feed.lines[0]["version"]] == ["screen", 0]
     named = {"reply": "hall", "title": "Finals", "groups": "A", "tonight": {"A": [1, 2]}}
     assert named in feed.lines and page.lines[0] == named
@@ -59,6 +62,9 @@ def test_a_group_or_all(hall: Halls) -> None:
     for path in "/table.json", "/table.txt":
         assert got(one.port, path)[::2] == (400, "add ?group= with one of A, B\n")
     assert json.loads(got(one.port, "/table.json?group=B")[2])["matches"][1]["number"] == 1
+    with socket.create_connection(("127.0.0.1", one.port), 10) as other:
+        other.sendall(b"HEAD /feed HTTP/1.1\r\nHost: 127.0.0.1\r\n\r\n")
+        assert other.recv(100).startswith(b"HTTP/1.1 405 ")
 
 
 def test_the_table_once_and_its_etag(hall: Halls) -> None:
@@ -78,10 +84,10 @@ def test_the_table_once_and_its_etag(hall: Halls) -> None:
         assert status == 200 and headers["content-type"].startswith("application/json")
         assert json.loads(body) == phone.lines[-1] or json.loads(body)["version"] == number + 1
         for path, known in itertools.product(("/table.txt", "/table.json"), (tags[-1], "*")):
-            status, headers, body = got(one.port, path, If_None_Match=known)
+            status, headers, body = got(one.port, path, f"If-None-Match: {known}")
             assert (status, headers["etag"], body) == (304, tags[-1], "")
         for known in ['"x"', '"0.9"', *tags[:-1]]:
-            assert got(one.port, "/table.txt", If_None_Match=known)[0] == 200
+            assert got(one.port, "/table.txt", f"If-None-Match: {known}")[0] == 200
     assert tags == ['W/"0.1"', 'W/"0.2"']
     with open(one.folder / "a.csv", "a", encoding="ascii") as record:
         record.write("mend,6,,\n")
@@ -89,77 +95,59 @@ def test_the_table_once_and_its_etag(hall: Halls) -> None:
     assert got(one.port, "/table.txt")[2].startswith("GROUP A v00000 IN PLAY 0 EDITION 1\n")
 
 
-def test_the_board_is_gone_and_the_table_says_so(hall: Halls) -> None:
-    """A record that is followed no more: pulses name it no more, and the table has its age."""
-    one = hall("--reporter", "1", records=("a.csv", "b.csv"))
-    feed = Feed(one.port)
-    (one.folder / "a.csv").write_text("")
-    assert feed.until("pulse", groups="B")["moments"] == {"B": [0, 0]}
-    assert int(got(one.port, "/table.txt?group=A")[1]["age"]) >= 1
-    assert "age" not in got(one.port, "/table.txt?group=B")[1]
+@contextlib.contextmanager
+def reads_nothing(port: int, path: str, version: str = "1.1") -> Iterator[socket.socket]:
+    """Who asks for lines, and takes none of them yet."""
+    with socket.socket() as slow:
+        slow.setsockopt(socket.SOL_SOCKET, socket.SO_RCVBUF, 4_096)
+        slow.settimeout(30)
+        slow.connect(("127.0.0.1", port))
+        slow.sendall(f"GET {path} HTTP/{version}\r\nHost: 127.0.0.1\r\n\r\n".encode())
+        yield slow
 
 
-def test_as_many_readers_as_screens_may_be(hall: Halls) -> None:
-    """Who reads a feed has the place of a screen. One that goes makes room."""
-    one = hall("--reporter", "1", "--most-screens", "2")
-    feed, screen = Feed(one.port), one.screen()
-    assert feed.next()["reply"] == "screen" and screen.status == 101
-    assert Feed(one.port).answer.status == 503 and one.phone(1).answer(1, 0, "kickoff") == "entered"
-    feed.close()
-    assert until(lambda: Feed(one.port).answer.status == 200)
-
-
-@pytest.mark.parametrize("version", ["1.0", "1.1"])
-def test_a_slow_reader_gets_the_newest_and_holds_nobody_up(hall: Halls, version: str) -> None:
-    """Of lines that it did not take in time it gets the newest alone; also by HTTP/1.0."""
-    one = hall("--reporter", "1")
-    slow = socket.socket()
-    slow.setsockopt(socket.SOL_SOCKET, socket.SO_RCVBUF, 4_096)
-    slow.connect(("127.0.0.1", one.port))
-    slow.sendall(f"GET /feed HTTP/{version}\r\nHost: 127.0.0.1\r\n\r\n".encode())
-    fast, phone = Feed(one.port), one.phone(1)
-    assert phone.answer(1, 0, "kickoff") == "entered"
-    for number in range(1, 600):
-        with open(one.folder / "a.csv", "a", encoding="ascii") as record:
-            record.write(f"1,1,{number},{'goal' if number % 2 else 'disallow'}-home\n")
-        if number % 100 == 0:
-            fast.until("screen", version=number + 1)
-    fast.until("screen", version=600)
-    assert until(lambda: health(one.port)["left_out"] > 0)
-    # It is read as who takes what a chunk says, or all until the end.
+def shown_to(slow: socket.socket, last: int) -> list[int]:
+    """The versions that come to who takes what a chunk says, or all until the end."""
     shown = [0]
-    slow.settimeout(15)
-    with slow, slow.makefile("rb") as lines:
-        while shown[-1] < 600:
+    with slow.makefile("rb") as lines:
+        while shown[-1] < last:
             line = lines.readline()
+            assert line, "it has ended"
             said = json.loads(line) if line.startswith(b"{") else {}
             shown += [said["version"]] if said.get("reply") == "screen" else []
-    assert shown[1:] == sorted(set(shown[1:])) and len(shown) < 500
+    return shown
+
+
+def test_slow_readers_get_the_newest_and_hold_nobody_up(hall: Halls) -> None:
+    """A page, and feeds by both kinds of HTTP: of lines that they did not take in time they get
+    the newest alone."""
+    one = hall("--reporter", "1")
+    with contextlib.ExitStack() as stack:
+        ways = [reads_nothing(one.port, "/feed", version) for version in ("1.0", "1.1")]
+        feeds = [stack.enter_context(way) for way in ways]
+        page, fast, phone = one.screen(room=4_096), Feed(one.port), one.phone(1)
+        assert phone.answer(1, 0, "kickoff") == "entered"
+        words = ["disallow-home", "goal-home"] * 300
+        rows = [f"1,1,{number},{word}\n" for number, word in enumerate(words)][1:]
+        for at in range(0, 599, 50):
+            with open(one.folder / "a.csv", "a", encoding="ascii") as record:
+                record.write("".join(rows[at : at + 50]))
+            fast.until("screen", version=min(at + 51, 600))
+        assert until(lambda: health(one.port)["left_out"] > 0)
+        assert page.until("screen", version=600)
+        pages = [it["version"] for it in page.lines if it["reply"] == "screen"]
+        for shown in [pages, *(shown_to(feed, 600) for feed in feeds)]:
+            assert shown[1:] == sorted(set(shown[1:])) and len(shown) < 500
 
 
 def test_a_reader_that_takes_nothing_ends(hall: Halls) -> None:
     """It has half a minute; what it sends ends it at once."""
     one = hall("--reporter", "1")
-    silent, loud = socket.socket(), socket.socket()
-    for each in silent, loud:
-        each.setsockopt(socket.SOL_SOCKET, socket.SO_RCVBUF, 4_096)
-        each.connect(("127.0.0.1", one.port))
-        each.sendall(b"GET /feed HTTP/1.1\r\nHost: 127.0.0.1\r\n\r\n")
-    assert until(lambda: health(one.port)["screens"] == 2)
-    loud.sendall(b"x" * 2_000)
-    assert until(lambda: health(one.port)["screens"] == 1)
-    assert until(lambda: health(one.port)["screens"] == 0, 90)
-    for each in silent, loud:
-        each.close()
-
-
-def test_what_is_no_feed(hall: Halls) -> None:
-    one = hall("--reporter", "1")
-    with socket.create_connection(("127.0.0.1", one.port), 10) as other:
-        other.sendall(b"HEAD /feed HTTP/1.1\r\nHost: 127.0.0.1\r\n\r\n")
-        assert other.recv(100).startswith(b"HTTP/1.1 405 ")
-    for path in "/feed/", "/feeds", "/table", "/table.html", "/table.json/":
-        assert got(one.port, path)[0] == 404
+    with reads_nothing(one.port, "/feed"), reads_nothing(one.port, "/feed") as loud:
+        assert until(lambda: health(one.port)["screens"] == 2)
+        loud.sendall(b"x" * 2_000)
+        assert until(lambda: health(one.port)["screens"] == 1)
+        assert until(lambda: health(one.port)["screens"] == 0, 90)
 
 
 # ---- through a broker

@@ -17,22 +17,31 @@ import ssl
 import subprocess
 import threading
 import time
+from typing import NamedTuple
 
-import conftest
 import pytest
-from test_serve import Socket, hall, until  # noqa: F401, a fixture
+from drivers.program import needs
+from drivers.wait import until
+from drivers.websocket import Socket
 
-pytestmark = pytest.mark.limit(100)
+pytestmark = pytest.mark.limit(200)
 SECONDS = 4
 WITHIN, LONG, MOST_MEMORY = 0.15, 1.0, 100 << 20
 STRANGER, OTHER = "127.0.0.2", "127.0.0.3"
 HONEST = ["--reporter", "1:1", "--reporter", "2:2", "--reporter", "9:9"]
+# What the operator is told.
+OF_ONE = r"cut off \d+ connections, all of 127\.0\.0\.2"
+OF_MANY = r"cut off \d+ connections, most of 127\.0\.1\.\d+"
+OF_LINK = rf"reporter 9 has \d phones(; {OF_ONE})?"
+PING = b"\x89\x80\1\2\3\4"
+SLOW = b"GET /replay.jsonl HTTP/1.1\r\nHost: 127.0.0.1\r\n\r\n"
+OWES = b"POST / HTTP/1.1\r\nHost: 127.0.0.1\r\nContent-Length: 1000000000\r\n\r\n"
 
 
 class Honest(threading.Thread):
     """A phone that taps four times a second, and how long each answer took."""
 
-    def __init__(self, phone, match):
+    def __init__(self, phone, match=1):
         super().__init__(daemon=True)
         self.phone, self.match, self.took, self.is_over = phone, match, [], threading.Event()
         assert phone.answer(match, 0, "kickoff") == "entered"
@@ -41,13 +50,29 @@ class Honest(threading.Thread):
     def run(self):
         while not self.is_over.wait(0.25):
             begun, number = time.monotonic(), len(self.took) + 1
-            assert (
-                self.phone.answer(
-                    self.match, number, "goal-home" if number % 2 else "disallow-home"
-                )
-                == "entered"
-            )
+            event = "goal-home" if number % 2 else "disallow-home"
+            assert self.phone.answer(self.match, number, event) == "entered"
             self.took.append(time.monotonic() - begun)
+
+
+def took(phones):
+    """How long the answers of these phones took: nine of ten at most so long, and the longest."""
+    times = sorted(it for phone in phones for it in phone.took)
+    return times[9 * len(times) // 10], times[-1]
+
+
+def patience():
+    """How many times as long as else something may take now: where others share each core it takes as much longer, and so does all that it waits for."""
+    running = int(pathlib.Path("/proc/loadavg").read_text().split()[3].split("/")[0])
+    return max(1, max(running, os.getloadavg()[0]) / os.cpu_count()) ** 2
+
+
+@contextlib.contextmanager
+def within(seconds):
+    """What is done takes at most so long."""
+    begun = time.monotonic()
+    yield
+    assert time.monotonic() - begun < seconds * patience()
 
 
 def most_memory(hall):
@@ -57,40 +82,36 @@ def most_memory(hall):
 
 
 @contextlib.contextmanager
-def flooded(hall, flood, *words, told, **how):
-    """Has a process of its own send a flood, and two phones tap meanwhile. Afterwards all is as it has to be."""
-    phones = [Honest(hall.phone(number, **how), number) for number in (1, 2)]
+def flooded(hall, control, flood, words, told, **how):
+    """Has a process of its own send a flood, and two phones tap meanwhile, and one at another server. Afterwards all is as it has to be."""
+    begun = time.monotonic()
+    phones = [Honest(hall.phone(it, **how), it) for it in (1, 2)]
+    elsewhere = Honest(control.phone(1, "b.csv"))
     process = multiprocessing.get_context("fork").Process(
         target=sent, args=(flood, hall.port, *words), daemon=True
     )
     process.start()
-    begun = time.monotonic()
+    end = time.monotonic() + SECONDS
     try:
         yield
-        time.sleep(max(0.0, begun + SECONDS - time.monotonic()))
+        time.sleep(max(0.0, end - time.monotonic()))
+        assert until(lambda: min(len(it.took) for it in (*phones, elsewhere)) >= 2, 60)
         assert process.is_alive(), "the flood has ended"
     finally:
         process.kill()
         process.join()
-        for phone in phones:
+        for phone in *phones, elsewhere:
             phone.is_over.set()
-            phone.join(10)
-    took = sorted(it for phone in phones for it in phone.took)
+            phone.join(30)
+    (most, longest), (other, other_longest) = took(phones), took([elsewhere])
     memory = most_memory(hall)
-    print(
-        f"{flood.__name__}: {len(took)} taps, median {took[len(took) // 2]:.3f} s, the longest {took[-1]:.3f} s, {memory >> 20} MB"
-    )
-    # Where others share each core, a tap takes as much longer, and so does all that it waits for.
-    patience = max(1, os.getloadavg()[0] / os.cpu_count()) ** 2
-    assert (
-        len(took) >= SECONDS
-        and took[9 * len(took) // 10] < WITHIN * patience
-        and took[-1] < LONG * patience
-    )
-    assert memory < MOST_MEMORY
+    print(f"{flood.__name__}: {most:.3f} s, the longest {longest:.3f} s, {memory >> 20} MB")
+    assert most < max(WITHIN * patience(), 10 * other)
+    assert longest < max(LONG * patience(), 10 * other_longest) and memory < MOST_MEMORY
     status, _, errors = hall.end(signal.SIGTERM)
-    print(errors)
-    assert status == 0 and re.fullmatch(f"ucl_serve: {told}\n", errors)
+    more = int((time.monotonic() - begun) // 60)
+    assert status == 0
+    assert re.fullmatch(f"ucl_serve: {told}\n(ucl_serve: .*\n){{0,{more}}}", errors), errors
 
 
 def sent(flood, port, *words):
@@ -113,7 +134,7 @@ def connected(port, source=STRANGER, room=None):
     return one
 
 
-# ---- frames
+# ---- what is sent
 
 
 def frames(port, path, frame):
@@ -123,42 +144,24 @@ def frames(port, path, frame):
         one.socket.sendall(frame * 5_000)
 
 
-@pytest.mark.parametrize(
-    "frame",
-    [b"\x89\x80\1\2\3\4", b"\x8a\x80\1\2\3\4", b"\x01\x80\1\2\3\4"],
-    ids=["pings", "pongs", "empty parts"],
-)
-def test_frames_of_a_screen(hall, frame):
-    one = hall(*HONEST)
-    with flooded(
-        one, frames, "/lines", frame, told=r"cut off \d+ connections, all of 127\.0\.0\.2"
-    ):
-        pass
-
-
-def test_pings_of_a_stolen_link(hall):
-    """All phones of the link together may send what one may."""
-    one = hall(*HONEST)
-    with flooded(
-        one,
-        several_ping,
-        f"/report/{one.key(9)}/taps",
-        told=r"reporter 9 has \d phones(; cut off \d+ connections, all of 127\.0\.0\.2)?",
-    ):
-        time.sleep(SECONDS - 1)
-        assert one.health()["cut_off"] > 0
-
-
 def several_ping(port, path):
     """Eight phones that each send as much as one may."""
     phones = [Socket(port, path, source=STRANGER) for _ in range(8)]
     while True:
         for phone in phones:
-            phone.socket.sendall(b"\x89\x80\1\2\3\4" * 130)
+            phone.socket.sendall(PING * 130)
         time.sleep(0.1)
 
 
-# ---- connections
+def tap_much(port, path):
+    """Two hundred phones of one link, each with 18 taps a second, which are refused."""
+    phones = [Socket(port, path, source=STRANGER) for _ in range(200)]
+    event = {"edition": 0, "match": 9, "expected": 7, "event": "goal-home"}
+    while True:
+        for at, phone in enumerate(phones):
+            with contextlib.suppress(OSError):
+                phone.send(json.dumps({"tap": f"{at:032x}", **event}))
+        time.sleep(1 / 18)
 
 
 def read_slowly(port):
@@ -167,54 +170,13 @@ def read_slowly(port):
     with contextlib.ExitStack() as stack:
         for at in range(2_400):
             ones.append(stack.enter_context(connected(port, room=2_048)))
-            request = (
-                b"GET /replay.jsonl HTTP/1.1\r\nHost: 127.0.0.1\r\n\r\n"
-                if at % 2
-                else b"POST / HTTP/1.1\r\nHost: 127.0.0.1\r\nContent-Length: 1000000000\r\n\r\n"
-            )
             with contextlib.suppress(OSError):
-                ones[-1].sendall(request)
+                ones[-1].sendall(SLOW if at % 2 else OWES)
             if at % 400 == 0:
                 for one in ones:
                     one.setblocking(False)
                     with contextlib.suppress(OSError):
                         one.recv(300)
-
-
-def few_files():
-    """As many open files as a login has."""
-    resource.setrlimit(resource.RLIMIT_NOFILE, (1_024, 1_024))
-
-
-def test_slow_readers_and_bodies_that_do_not_come(hall):
-    """All the while there is room for a new phone, and for who watches it."""
-    one = hall(*HONEST, preexec_fn=few_files)
-    with flooded(one, read_slowly, told=r"cut off \d+ connections, all of 127\.0\.0\.2"):
-        time.sleep(2)
-        begun = time.monotonic()
-        assert (
-            one.phone(2).until("pulse")
-            and one.screen().status == 101
-            and one.health()["cut_off"] > 100
-        )
-        assert time.monotonic() - begun < 2
-
-
-@pytest.mark.parametrize(
-    "asked",
-    [b"GET /replay.jsonl HTTP/1.1\r\n", b"POST / HTTP/1.1\r\nContent-Length: 1000000000\r\n"],
-    ids=["reads slowly", "owes a body"],
-)
-def test_who_is_slow_is_gone_in_ten_seconds(hall, asked):
-    """A POST has its answer at once."""
-    one = hall()
-    with connected(one.port, room=2_048) as slow:
-        begun = time.monotonic()
-        slow.sendall(asked + b"Host: 127.0.0.1\r\n\r\n")
-        with contextlib.suppress(ConnectionError):
-            while time.monotonic() - begun < 20 and slow.recv(100):
-                time.sleep(0.5)
-        assert (8 if b"GET" in asked else 0) < time.monotonic() - begun < 13
 
 
 def stay_silent(port):
@@ -232,66 +194,20 @@ def begin_tls(port):
             stack.enter_context(connected(port)).sendall(b"\x16\x03\x01\x02")
 
 
-@pytest.fixture(scope="module")
-def certificate(tmp_path_factory):
-    """The options of a server with encryption."""
-    conftest.needs("openssl")
-    folder = tmp_path_factory.mktemp("certificate")
-    words = "openssl req -x509 -newkey rsa:2048 -nodes -days 2 -subj /CN=127.0.0.1 -keyout key.pem -out certificate.pem"
-    subprocess.run(words.split(), cwd=folder, check=True, stderr=subprocess.DEVNULL)
-    return ["--certificate", folder / "certificate.pem", "--key", folder / "key.pem"]
-
-
-@pytest.fixture(scope="module")
-def context():
-    """What a phone agrees by, on any certificate."""
-    context = ssl.SSLContext(ssl.PROTOCOL_TLS_CLIENT)
-    context.check_hostname, context.verify_mode = False, ssl.CERT_NONE
-    return context
-
-
 def renew_keys(port):
     """A screen over encryption that asks for new keys for ever: openssl does so at each line with a K."""
     lines = [
-        "GET /lines HTTP/1.1",
-        f"Host: 127.0.0.1:{port}",
-        "Upgrade: websocket",
-        "Connection: Upgrade",
-        "Sec-WebSocket-Version: 13",
-    ]
-    lines += [
-        "Sec-WebSocket-Key: dGhlIHNhbXBsZSBub25jZQ==",
-        f"Origin: https://127.0.0.1:{port}",
-        "",
-        "",
+        *("GET /lines HTTP/1.1", f"Host: 127.0.0.1:{port}", "Upgrade: websocket"),
+        *("Connection: Upgrade", "Sec-WebSocket-Version: 13", f"Origin: https://127.0.0.1:{port}"),
+        *("Sec-WebSocket-Key: dGhlIHNhbXBsZSBub25jZQ==", "", ""),
     ]
     words = ["openssl", "s_client", "-connect", f"127.0.0.1:{port}", "-bind", STRANGER]
-    with subprocess.Popen(
-        words, stdin=subprocess.PIPE, stdout=subprocess.DEVNULL, stderr=subprocess.DEVNULL
-    ) as client:
+    unread = dict.fromkeys(("stdout", "stderr"), subprocess.DEVNULL)
+    with subprocess.Popen(words, stdin=subprocess.PIPE, bufsize=0, **unread) as client:
         client.stdin.write("\r\n".join(lines).encode())
-        client.stdin.flush()
         time.sleep(0.5)
         while client.poll() is None:
             client.stdin.write(b"K\n")
-            client.stdin.flush()
-
-
-def test_keys_that_are_renewed_for_ever(hall, certificate, context):
-    """Not all that comes over an encryption is of a message."""
-    one = hall(*HONEST, *certificate)
-    with flooded(
-        one, renew_keys, context=context, told=r"cut off \d+ connections, all of 127\.0\.0\.2"
-    ):
-        pass
-
-
-@pytest.mark.parametrize("flood", [stay_silent, begin_tls])
-def test_connections_before_their_encryption(hall, certificate, context, flood):
-    one = hall(*HONEST, *certificate)
-    with flooded(one, flood, context=context, told=r"cut off \d+ connections, all of 127\.0\.0\.2"):
-        time.sleep(SECONDS - 1)
-        assert len([*pathlib.Path(f"/proc/{one.process.pid}/fd").iterdir()]) < 300
 
 
 def knock(port):
@@ -303,17 +219,6 @@ def knock(port):
             ones.pop(0).close()
 
 
-def test_places_are_shared_out_by_address(hall):
-    """Who comes from another address, and takes a while to ask, is answered."""
-    one = hall(*HONEST)
-    with flooded(one, knock, told=r"cut off \d+ connections, all of 127\.0\.0\.2"):
-        for _ in range(3):
-            with connected(one.port, OTHER) as slow:
-                time.sleep(1)
-                slow.sendall(b"GET /health HTTP/1.1\r\nHost: 127.0.0.1\r\n\r\n")
-                assert slow.recv(12) == b"HTTP/1.1 200"
-
-
 def ask_from_everywhere(port, request):
     """Connections from a hundred addresses that begin to ask, or read their answers slowly."""
     with contextlib.ExitStack() as stack:
@@ -321,59 +226,124 @@ def ask_from_everywhere(port, request):
             stack.enter_context(connected(port, f"127.0.1.{at % 100 + 1}", 2_048)).sendall(request)
 
 
-@pytest.mark.parametrize(
-    "asked",
-    [b"GET /replay.jsonl HTTP/1.1\r\nHost: 127.0.0.1\r\n\r\n", b"GET /health HTTP/1.1\r\n"],
-    ids=["whole", "half"],
-)
-def test_requests_from_a_hundred_addresses(hall, asked):
-    one = hall(*HONEST)
-    with flooded(
-        one, ask_from_everywhere, asked, told=r"cut off \d+ connections, most of 127\.0\.1\.\d+"
-    ):
-        time.sleep(1)
+# ---- what is so meanwhile
+
+
+def nothing_more(one):
+    """That taps are answered is all."""
+
+
+def some_are_cut_off(one):
+    assert until(lambda: one.health()["cut_off"] > 0)
+
+
+def has_room(one):
+    """For a new phone, and for who watches it."""
+    assert until(lambda: one.health()["cut_off"] > 100, 60)
+    with within(2):
+        assert one.phone(9).until("pulse") and one.screen().status == 101
+
+
+def has_few_files(one):
+    time.sleep(SECONDS - 1)
+    assert len([*pathlib.Path(f"/proc/{one.process.pid}/fd").iterdir()]) < 300
+
+
+def answers_another(one):
+    """Who comes from another address, and takes a while to ask."""
+    for _ in range(3):
+        with socket.create_connection(("127.0.0.1", one.port), 30, (OTHER, 0)) as slow:
+            time.sleep(1)
+            slow.sendall(b"GET /health HTTP/1.1\r\nHost: 127.0.0.1\r\n\r\n")
+            assert slow.recv(12) == b"HTTP/1.1 200"
+
+
+def takes_another(one):
+    time.sleep(1)
+    with within(4):
+        assert one.get("/health", source=OTHER)[0] == 200
+        assert Socket(one.port, "/lines", source=OTHER).status == 101
+
+
+def has_eight_phones(one):
+    """Eight of a link have a place, of which the oldest gives way; all of them together may send what one may."""
+    begun = time.monotonic()
+    time.sleep(SECONDS - 1)
+    # One that gives way is counted until it has gone.
+    assert until(lambda: one.health()["groups"]["A"]["phones"]["9"] <= 8)
+    refused = len([row for row in one.rows() if row.startswith("9,")])
+    assert refused <= 20 * (time.monotonic() - begun + 3)
+
+
+# ---- floods
+
+
+class Flood(NamedTuple):
+    """A flood by a function, with these words, a reporter's page or the page of screens among them; what is so meanwhile, and what is told."""
+
+    flood: object
+    words: tuple = ()
+    meanwhile: object = nothing_more
+    told: str = OF_ONE
+    is_encrypted: bool = False
+
+
+FLOODS = {
+    "pings": Flood(frames, ("/lines", PING)),
+    "pongs": Flood(frames, ("/lines", b"\x8a\x80\1\2\3\4")),
+    "empty parts": Flood(frames, ("/lines", b"\x01\x80\1\2\3\4")),
+    "pings of a stolen link": Flood(several_ping, ("LINK",), some_are_cut_off, OF_LINK),
+    "two hundred phones of one link": Flood(tap_much, ("LINK",), has_eight_phones, OF_LINK),
+    "slow readers, and bodies that do not come": Flood(read_slowly, (), has_room),
+    "keys that are renewed for ever": Flood(renew_keys, is_encrypted=True),
+    "silence before encryption": Flood(stay_silent, (), has_few_files, is_encrypted=True),
+    "half an encryption": Flood(begin_tls, (), has_few_files, is_encrypted=True),
+    "silence": Flood(knock, (), answers_another),
+    "requests of a hundred addresses": Flood(ask_from_everywhere, (SLOW,), takes_another, OF_MANY),
+    "half requests of a hundred": Flood(ask_from_everywhere, (SLOW[:30],), takes_another, OF_MANY),
+}
+
+
+@pytest.fixture(scope="module")
+def certificate(tmp_path_factory):
+    """The options of a server with encryption."""
+    needs("openssl")
+    folder = tmp_path_factory.mktemp("certificate")
+    words = "openssl req -x509 -newkey rsa:2048 -nodes -days 2 -subj /CN=127.0.0.1 -keyout key.pem -out certificate.pem"
+    subprocess.run(words.split(), cwd=folder, check=True, stderr=subprocess.DEVNULL)
+    return ["--certificate", folder / "certificate.pem", "--key", folder / "key.pem"]
+
+
+def few_files():
+    """As many open files as a login has."""
+    resource.setrlimit(resource.RLIMIT_NOFILE, (1_024, 1_024))
+
+
+@pytest.mark.parametrize("name", FLOODS)
+def test_taps_in_a_flood(hall, certificate, name):
+    it, how = FLOODS[name], {}
+    if it.is_encrypted:
+        # A phone agrees on any certificate.
+        how["context"] = ssl.SSLContext(ssl.PROTOCOL_TLS_CLIENT)
+        how["context"].check_hostname, how["context"].verify_mode = False, ssl.CERT_NONE
+    one = hall(*HONEST, *(certificate if it.is_encrypted else []), preexec_fn=few_files)
+    link = f"/report/{one.key(9)}/taps"
+    words = [link if word == "LINK" else word for word in it.words]
+    control = hall("--reporter", "1", records=("b.csv",))
+    with flooded(one, control, it.flood, words, it.told, **how):
+        it.meanwhile(one)
+
+
+@pytest.mark.parametrize("asked", [SLOW[:30], SLOW, OWES], ids=["half", "slow", "owes a body"])
+def test_who_is_slow_is_gone_in_ten_seconds(hall, asked):
+    """A POST has its answer at once."""
+    one = hall()
+    with connected(one.port, room=2_048) as slow:
         begun = time.monotonic()
-        assert (
-            one.get("/health", source=OTHER)[0] == 200
-            and Socket(one.port, "/lines", source=OTHER).status == 101
-        )
-        assert time.monotonic() - begun < 4
-
-
-# ---- a link that was stolen
-
-
-def tap_much(port, path):
-    """Two hundred phones of one link, each with 18 taps a second, which are refused."""
-    phones = [Socket(port, path, source=STRANGER) for _ in range(200)]
-    while True:
-        for at, phone in enumerate(phones):
-            with contextlib.suppress(OSError):
-                phone.send(
-                    json.dumps(
-                        {
-                            "tap": f"{at:032x}",
-                            "edition": 0,
-                            "match": 9,
-                            "expected": 7,
-                            "event": "goal-home",
-                        }
-                    )
-                )
-        time.sleep(1 / 18)
-        if all(not phone.socket.fileno() for phone in phones):
-            return
-
-
-def test_two_hundred_phones_of_one_link(hall):
-    """Eight have a place, of which the oldest gives way."""
-    one = hall(*HONEST)
-    with flooded(
-        one,
-        tap_much,
-        f"/report/{one.key(9)}/taps",
-        told=r"reporter 9 has \d phones(; cut off \d+ connections, all of 127\.0\.0\.2)?",
-    ):
-        time.sleep(SECONDS - 1)
-        assert one.health()["groups"]["A"]["phones"]["9"] <= 8
-    assert len([row for row in one.rows() if row.startswith("9,")]) <= 20 * (SECONDS + 3)
+        slow.settimeout(25)
+        slow.sendall(asked)
+        with contextlib.suppress(ConnectionError):
+            while time.monotonic() - begun < 25 and slow.recv(100):
+                time.sleep(0.5)
+        most = min(25, 12 + 3 * patience())
+        assert (0 if asked == OWES else 8) < time.monotonic() - begun < most

@@ -5,6 +5,7 @@ import asyncio
 import errno
 import json
 from collections.abc import Awaitable, Callable
+from typing import Any
 
 import model
 import pytest
@@ -16,11 +17,11 @@ from ucl_hall.engine.json_lines import answer_of, reply_of
 from ucl_hall.engine.trial import Changed, LeaveOut, MendRefused, Trial
 from ucl_hall.faults import CutOff, DiskFails, Dropped, Held, Lost, NotWritten, Replaced
 from ucl_hall.record.board import Board as AnyBoard
-from ucl_hall.record.sending import Entered, Events, Mend, Outcome, Way
+from ucl_hall.record.sending import Entered, Events, Mend, Outcome
 from ucl_hall.rows import Row
 from ucl_hall.terminal.pending import Seen
 from ucl_hall.terminal.session import Session
-from ucl_hall.web.phones import Reporter, message_of
+from ucl_hall.web.phones import WAYS, Reporter, message_of
 
 pytestmark = pytest.mark.quick
 STARTED = f"group,B,uefa,0\n{model.CLUBS}1,1,0,kickoff\n1,1,1,goal-home\n1,1,2,goal-away\n"
@@ -88,35 +89,78 @@ CASES: dict[str, tuple[list[Outcome] | Exception, str, str, str]] = {
 }
 
 
-@pytest.mark.parametrize("name", CASES)
-def test_what_a_phone_is_told(name: str) -> None:
-    outcome, wanted, told, _ = CASES[name]
+TAP = {"edition": 0, "match": 1, "expected": 3, "event": "goal-home"}
 
-    async def work() -> None:
+
+def at_phone(outcome: list[Outcome] | Exception, name: str = "tap") -> tuple[str, str]:
+    """The name and the sentence that a phone is told of a tap that comes to this, which the board
+    was sent as it was tapped."""
+
+    async def work() -> Any:
         board = Board(moment_of(STARTED))
         board.answers.append(outcome)
-        tap = {"tap": ID, "edition": 0, "match": 1, "expected": 3, "event": "goal-home"}
-        message = message_of(json.dumps(tap), [1])
+        message = message_of(json.dumps({name: ID, **TAP}), [1])
         answer = json.loads(await Reporter(board, 1, [1]).reply(message))
-        assert (answer["id"], answer["name"], answer["told"]) == (ID, wanted, told)
-        assert board.sent == [Events(1, (Row(1, 3, "goal-home"),), 0, Way.FIRST, ID)]
+        assert board.sent == [Events(1, (Row(1, 3, "goal-home"),), 0, WAYS[name], ID)]
+        assert answer["id"] == ID
+        return answer["name"], answer["told"]
 
-    asyncio.run(work())
+    name_and_told: tuple[str, str] = asyncio.run(work())
+    return name_and_told
+
+
+@pytest.mark.parametrize("name", CASES)
+def test_what_a_phone_is_told(name: str) -> None:
+    outcome, *wanted, _ = CASES[name]
+    assert at_phone(outcome) == (*wanted,)
 
 
 @pytest.mark.parametrize("fault, name", [(Dropped(1), "dropped"), (Lost(), "lost")])
 def test_a_tap_that_is_asked_about(fault: Exception, name: str) -> None:
     """It is never entered, and a phone is told so."""
+    got, told = at_phone(fault, "ask")
+    assert got == name and told.startswith("Not entered: ")
 
-    async def work() -> None:
-        board = Board(moment_of(STARTED))
-        board.answers.append(fault)
-        tap = {"ask": ID, "edition": 0, "match": 1, "expected": 3, "event": "goal-home"}
-        answer = json.loads(await Reporter(board, 1, [1]).reply(message_of(json.dumps(tap), [1])))
-        assert answer["name"] == name and answer["told"].startswith("Not entered: ")
-        assert isinstance(board.sent[0], Events) and board.sent[0].way is Way.ASKED
 
-    asyncio.run(work())
+REFUSALS = {
+    "not-started": "1,2,0,goal-home\n",
+    "already-started": "1,1,3,kickoff\n",
+    "not-finished": "1,1,3,reopen\n",
+    "no-goal": "1,2,0,kickoff\n1,2,1,disallow-home\n",
+    "no-caution": "1,1,3,second-yellow-home\n",
+    "finished": "1,1,3,fulltime\n1,1,4,red-away\n",
+}
+
+
+@pytest.mark.parametrize("name", REFUSALS)
+def test_refusals_at_a_phone(name: str) -> None:
+    """Each by its name, in a sentence that a button has room for."""
+    got, told = at_phone([refusal(REFUSALS[name])])
+    assert got == name and told.startswith("Not entered: ") and len(told) < 80
+
+
+NO_TAPS: list[dict[str, object]] = [
+    *({"tap": it} for it in ("", "AB" * 16, "ab" * 17, 7, None, [ID])),
+    *({"match": it} for it in (0, 2, 13, "1", 1.0, True, None, 1 << 80)),
+    *({"edition": it} for it in (-1, 65_536, "0")),
+    *({"expected": it} for it in (-1, 65_536, [])),
+    *({"event": it} for it in ("", "goal", "mend", 5, {}, "kickoff\n")),
+    {"ask": ID},
+]
+
+
+@pytest.mark.parametrize(
+    "text",
+    [
+        *(json.dumps({"tap": ID, **TAP, **it}) for it in NO_TAPS),
+        *(json.dumps(TAP), "", "x", "null", "[]", "{}", "[" * 1_000, '{"tap":', "\0", "1" * 900),
+    ],
+    ids=lambda text: text[-40:],
+)
+def test_messages_that_are_no_taps(text: str) -> None:
+    """Of a reporter of match 1. A server closes the connection by which one comes."""
+    with pytest.raises(ValueError):
+        message_of(text, [1])
 
 
 class Lines:

@@ -8,19 +8,24 @@ import time
 from collections.abc import Callable, Iterator
 from typing import Any
 
+import model
 import pytest
-from conftest import command, free_port
-from feeds import SERVE, Feed, Mirror, got, health, lines_of, until
-from test_page import browser as browser
-from test_serve import Socket
-from test_serve import hall as hall
+from drivers.board import lines_to
+from drivers.feed import Feed
+from drivers.mirror import Mirror
+from drivers.port import free_port
+from drivers.program import command
+from drivers.server import got, health
+from drivers.wait import until
+from drivers.websocket import Socket
 
 pytestmark = pytest.mark.limit(200)
 Halls = Callable[..., Any]
 Mirrors = Callable[..., Mirror]
 # A match of some events, in rows behind the clubs.
 ROWS = ["1,1,0,kickoff", *(f"1,1,{it},goal-{'home' if it % 2 else 'away'}" for it in range(1, 40))]
-LINES = lines_of("".join(row + "\n" for row in ROWS))
+ANSWERS = lines_to(model.CLUBS + "".join(row + "\n" for row in ROWS))
+LINES = [line.decode() for line in ANSWERS if b'"screen"' in line]
 PULSE = json.dumps({"reply": "pulse", "groups": "A", "moments": {"A": [0, len(LINES)]}})
 
 
@@ -65,7 +70,8 @@ def versions(feed: Feed, last: int) -> list[int]:
 
 
 def test_a_mirror_of_a_mirror_shows_what_the_board_shows(hall: Halls, mirrors: Mirrors) -> None:
-    """Title and matches of the evening too; pages and feed, but no reporter."""
+    """Title and matches of the evening too; pages and feed, but no reporter. Where the one between
+    is killed who followed it has the newest soon, whoever was away when it was entered."""
     one = hall("--reporter", "1:1,2", "--title", "Finals", records=("a.csv", "b.csv"))
     first = mirrors(*source(one.port))
     second = mirrors(*source(first.port))
@@ -93,6 +99,11 @@ def test_a_mirror_of_a_mirror_shows_what_the_board_shows(hall: Halls, mirrors: M
     with open(one.folder / "a.csv", "a", encoding="ascii") as record:
         record.write("mend,7,,\nclub,1,Alfa,60000\n")
     assert second.shows(2, edition=2) and table(one) == table(second)
+    first.end()
+    assert phone.answer(2, 0, "kickoff", edition=2) == "entered"
+    assert until(lambda: not second.is_there()) and table(second)["version"] == 2
+    first.start()
+    assert second.shows(3, edition=2) and until(second.is_there)
     # Another evening: each reporter has all matches, so none are named.
     one.words = ("--reporter", "1")
     one.end()
@@ -137,64 +148,6 @@ def test_the_board_is_killed_and_comes_back(hall: Halls, mirrors: Mirrors) -> No
     assert lines[1::2] == [f"{named}it is there again"] * (len(lines) // 2)
 
 
-def test_the_mirror_is_killed_and_comes_back(hall: Halls, mirrors: Mirrors) -> None:
-    """Who followed it has the newest soon, whoever was away when it was entered."""
-    one = hall("--reporter", "1")
-    mirror = mirrors(*source(one.port))
-    other = mirrors(*source(mirror.port))
-    assert other.shows(0)
-    mirror.end()
-    assert one.phone(1).answer(1, 0, "kickoff") == "entered"
-    assert until(lambda: not other.is_there()) and table(other)["version"] == 0
-    mirror.start()
-    assert other.shows(1) and until(other.is_there)
-
-
-def test_its_followers_are_killed(hall: Halls, mirrors: Mirrors) -> None:
-    """No table goes back, and none is lost."""
-    one = hall("--reporter", "1")
-    mirror = mirrors(*source(one.port))
-    assert mirror.shows(0)
-    feed, phone = Feed(mirror.port), one.phone(1)
-    assert phone.answer(1, 0, "kickoff") == "entered"
-    for number in range(1, 31):
-        event = "goal-home" if number % 2 else "disallow-home"
-        # A phone taps twenty times a second at most.
-        time.sleep(0.05)
-        if number % 3 == 0:
-            for child in mirror.children():
-                os.kill(child, signal.SIGKILL)
-        assert phone.answer(1, number, event) == "entered"
-    shown = versions(feed, 31)
-    assert shown == sorted(set(shown)) and until(mirror.is_there)
-    assert mirror.end(signal.SIGTERM) == (0, "", "")
-
-
-def test_the_page_of_a_mirror(hall: Halls, mirrors: Mirrors, browser: Any) -> None:
-    """It says `No signal` as soon as it is opened, if the board is gone, and goes on by itself."""
-    one = hall("--reporter", "1")
-    mirror = mirrors(*source(one.port))
-    assert one.phone(1).answer(1, 0, "kickoff") == "entered" and mirror.shows(1)
-
-    def says(version: str, signal: str) -> bool:
-        parts = [
-            browser.execute_script(f"return document.querySelector('.{name}').textContent")
-            for name in ("version", "signal")
-        ]
-        return parts == [version, signal]
-
-    browser.get(f"http://127.0.0.1:{mirror.port}/?details")
-    assert until(lambda: says("version 1", ""))
-    one.process.send_signal(signal.SIGSTOP)
-    assert until(lambda: says("version 1", "No signal")) and not mirror.is_there()
-    browser.refresh()
-    assert until(lambda: says("version 1", "No signal"), 3)
-    one.process.send_signal(signal.SIGCONT)
-    assert until(lambda: says("version 1", ""))
-    assert one.phone(1).answer(1, 1, "goal-home") == "entered"
-    assert until(lambda: says("version 2", ""))
-
-
 def test_several_of_one_record_make_one_picture(hall: Halls, mirrors: Mirrors) -> None:
     """The newest of all, also where one of them is behind, or gone, or of one group alone."""
     one = hall("--reporter", "1", records=("a.csv", "b.csv"))
@@ -206,10 +159,10 @@ def test_several_of_one_record_make_one_picture(hall: Halls, mirrors: Mirrors) -
     for number, event in enumerate(["kickoff", "goal-home", "goal-home"]):
         assert phone.answer(1, number, event) == "entered"
     # Pulses are of all groups, and that of B stands as it did.
-    assert both.shows(3) and until(both.is_there) and both.is_there("B")
+    assert both.shows(3) and until(both.is_there) and until(lambda: both.is_there("B"))
     other = one.phone(1, "b.csv")
     assert other.answer(1, 0, "kickoff") == "entered"
-    assert until(lambda: not both.is_there("B")) and both.is_there()
+    assert until(lambda: not both.is_there("B")) and until(both.is_there)
     way.process.send_signal(signal.SIGCONT)
     assert both.shows(1, group="B") and until(lambda: both.is_there("B"))
     one.end()
@@ -224,19 +177,21 @@ def test_a_server_that_is_none(mirrors: Mirrors, hall: Halls) -> None:
     mirror = mirrors("--follow", page, "--follow", none)
     assert got(mirror.port, "/table.txt")[::2] == (503, "no board is known here yet\n")
     assert Feed(mirror.port).next() == {"reply": "hall", "title": "", "groups": "", "tonight": {}}
-    time.sleep(3)
-    told = mirror.end(signal.SIGTERM)
-    assert sorted(told.errors.splitlines()) == sorted(
-        f"ucl_serve: {url}: {why}; it is tried again until it is there"
-        for url, why in ((page, "it answers 200, and no feed"), (none, "no connection"))
-    )
+    whys = (page, "it answers 200, and no feed"), (none, "no connection")
+    tried = "it is tried again until it is there"
+    wanted = {f"ucl_serve: {url}: {why}; {tried}\n" for url, why in whys}
+    assert {mirror.told(), mirror.told()} == wanted
+    # By then it has tried again.
+    time.sleep(2)
+    assert mirror.end(signal.SIGTERM) == (0, "", "")
 
 
 # ---- by whatever pipe
 
 
 def test_lines_of_a_pipe_in_any_order(mirrors: Mirrors, follow: str) -> None:
-    """What is shown is what `ucl_follow` shows of them: lost, repeated, reordered, cut off."""
+    """Lost, repeated, reordered, cut off: what `ucl_follow` shows of them last is shown, and before
+    it none but what that shows, in its order."""
     chance = random.Random(2021)
     for _ in range(3):
         lines = [line for line in LINES for _ in range(chance.choice([0, 1, 1, 2]))]
@@ -246,28 +201,17 @@ def test_lines_of_a_pipe_in_any_order(mirrors: Mirrors, follow: str) -> None:
         lines.insert(7, LINES[20][:500])
         text = "".join(line + "\n" for line in lines)
         wanted = command([follow, "--format", "json"], text).output.splitlines()
-        mirror = mirrors("--follow", "-")
+        mirror, expected = mirrors("--follow", "-"), [json.loads(line) for line in wanted]
+        feed = Feed(mirror.port)
         put(mirror, lines)
-        last = json.loads(wanted[-1])
+        feed.until("screen", version=expected[-1]["version"])
+        shown = [it for it in feed.lines if it["reply"] == "screen"]
         # A line that is cut off is none of a group, and has no number there.
-        del last["row"]
-        assert mirror.shows(last["version"]) and table(mirror) == last
-
-
-def test_lines_of_a_pipe_as_they_come(mirrors: Mirrors, follow: str) -> None:
-    """Each that is shown is one of those of `ucl_follow`, in their order."""
-    lines = [*LINES[:5], LINES[2], *LINES[8:4:-1], LINES[30], *LINES[9:31], LINES[31]]
-    text = "".join(line + "\n" for line in lines)
-    wanted = command([follow, "--format", "json"], text).output.splitlines()
-    mirror = mirrors("--follow", "-")
-    put(mirror, lines[:1])
-    assert mirror.shows(1)
-    feed = Feed(mirror.port)
-    for line in lines[1:]:
-        put(mirror, [line])
-        time.sleep(0.01)
-    feed.until("screen", version=32)
-    assert [it for it in feed.lines if it["reply"] == "screen"] == [json.loads(it) for it in wanted]
+        for said in (*shown, *expected):
+            del said["row"]
+        assert mirror.shows(expected[-1]["version"]) and table(mirror) == expected[-1]
+        rest = iter(expected)
+        assert shown and all(said in rest for said in shown)
 
 
 def test_a_pipe_that_loses_the_last_line(mirrors: Mirrors) -> None:
@@ -348,6 +292,8 @@ def test_a_follower_is_killed_before_it_has_read(mirrors: Mirrors) -> None:
     assert mirror.shows(1)
     feed = Feed(mirror.port)
     for version in range(2, 12):
+        # The one before may be there still for a moment.
+        assert until(lambda: len(mirror.children()) == 1)
         (child,) = mirror.children()
         os.kill(child, signal.SIGSTOP)
         put(mirror, [LINES[version - 1], LINES[0]])
@@ -355,6 +301,7 @@ def test_a_follower_is_killed_before_it_has_read(mirrors: Mirrors) -> None:
         os.kill(child, signal.SIGKILL)
         assert mirror.shows(version)
     assert versions(feed, 11) == [*range(1, 12)]
+    assert mirror.end(signal.SIGTERM) == (0, "", "")
 
 
 def test_a_long_pipe_takes_no_memory(mirrors: Mirrors) -> None:
@@ -366,22 +313,3 @@ def test_a_long_pipe_takes_no_memory(mirrors: Mirrors) -> None:
     assert mirror.shows(len(LINES))
     status = open(f"/proc/{mirror.process.pid}/status", encoding="ascii").read()
     assert int(status.split("VmHWM:")[1].split()[0]) < 100 << 10
-
-
-def test_command_lines_that_are_refused(hall: Halls) -> None:
-    refused: list[list[str]] = [
-        ["--follow", "here"],
-        ["--follow", "http://127.0.0.1:8080/"],
-        ["--follow", "ftp://x/feed"],
-        ["--follow", "-", "a.csv"],
-        ["--follow", "-", "--reporter", "1"],
-        ["--follow", "-", "--new-keys"],
-        ["--follow", "-", "--clubs", "x"],
-        ["--follow", "-", "--tonight", "1"],
-        ["--follow", "-", "--revoke", "1"],
-        ["--follow", "-", "--links"],
-        [],
-    ]
-    for words in refused:
-        ran: Any = command([SERVE, *words, "--listen", f"127.0.0.1:{free_port()}"])
-        assert ran.status == 2 and "error: " in ran.errors and ran.output == "", words

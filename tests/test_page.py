@@ -1,4 +1,4 @@
-"""The screens' page in a browser without a window: by lines that it is given, how it looks at each size; and with a server, while events are entered.
+"""The screens' page in a browser without a window: by lines that it is given, how it looks at each size; and with a server that is gone for a while.
 
 What the page shows, and what a screen reader is told, is that of the rules. At each size no text is cut, overlaps or leaves the window, and columns are
 as wide as in every other group. With `--picture FILE` the test of letters also writes a picture of the page, as PNG.
@@ -7,73 +7,33 @@ as wide as in every other group. With `--picture FILE` the test of letters also 
 import base64
 import itertools
 import json
-import os
 import pathlib
 import signal
-import socket
-import time
 from typing import NamedTuple
 
-import conftest
 import model
 import pytest
 import seasons
-from test_serve import free_port, hall, until  # noqa: F401, a fixture
+from drivers.port import free_port, is_reached
+from drivers.program import Started
+from drivers.text import TOP
+from drivers.wait import until
 
-pytestmark = pytest.mark.limit(200)
-PAGE = conftest.TOP / "ucl_hall/web/pages/index.html"
-SILENCE = 4
+pytestmark = pytest.mark.limit(400)
+PAGE = TOP / "ucl_hall/web/pages/index.html"
 LARGE = (1920, 1080)
 # How large names, figures and scores of the season are at least at each size: of one group, and on the wall.
 SIZES = {
-    (1280, 720): (36, 16),
-    (1366, 768): (39, 17),
-    LARGE: (54, 24),
-    (3840, 2160): (108, 48),
-    (1024, 768): (29, 14),
-    (390, 844): (20, 9.5),
+    **{(1280, 720): (36, 16), (1366, 768): (39, 17), LARGE: (54, 24)},
+    **{(3840, 2160): (108, 48), (1024, 768): (29, 14), (390, 844): (20, 9.5)},
 }
 FONTS = ["DejaVu Sans", "Noto Sans"]
 STATES = {model.IN_PLAY: "In play", model.FINISHED: "Full time"}
 FIGURES = ["played", "won", "drawn", "lost", "goals_for", "goals_against"]
-HEADS = [
-    "Place",
-    "Certain",
-    "Plays now",
-    "Club",
-    "Played",
-    "Won",
-    "Drawn",
-    "Lost",
-    "Goals for",
-    "Goals against",
-    "Goal difference",
-    "Points",
-]
+HEADS = "Place,Certain,Plays now,Club,Played,Won,Drawn,Lost,Goals for,Goals against,Goal difference,Points"
 MEANINGS = {"+": "certain to be first or second", "-": "certain not to be first or second", "": ""}
 LEGEND = "+ certain to be first or second, \u2212 certain not to be, by points alone"
-# Ten matches that are finished: the first and the last club are certain then, and two are level.
 HALL = '{"reply":"hall","title":"%s","groups":"%s","tonight":%s}'
-FINISHED = {
-    1: (2, 0),
-    2: (1, 1),
-    3: (1, 2),
-    4: (0, 3),
-    5: (0, 2),
-    6: (4, 0),
-    7: (3, 0),
-    8: (0, 1),
-    9: (1, 1),
-    10: (1, 2),
-}
-WORDS = [
-    "--headless=new",
-    "--no-sandbox",
-    "--disable-gpu",
-    "--disable-dev-shm-usage",
-    "--hide-scrollbars",
-    "--window-size=1920,1080",
-]
 # By the letter of each group what the page shows of it; the signs of a cell are those that are seen, and that are heard.
 SHOWN = """window.shown = () => {
   const text = (element) => element.textContent.trim();
@@ -161,54 +121,35 @@ ROUNDS = """return arguments[0].map((lines) => {
   lines.forEach((line) => take(line));
   return { shown: shown(), ...look() };
 });"""
-# From here on each version that is shown is noted, also one that is shown again.
-NOTED = """window.noted = []; new MutationObserver(() => noted.push(document.querySelector(".version").textContent))
-  .observe(document.querySelector(".version"), {childList: true, characterData: true, subtree: true})"""
-
 
 # ---- what the page has to show
 
 
+def minus(text):
+    """A text with the sign that the page has before a number."""
+    return text.replace("-", "\u2212")
+
+
 def shown_of(matches, roster, games, edition=0):
     """What the page shows of these matches, where these are the matches of the evening, by their numbers."""
+    clubs = [[roster[slot - 1][0] for slot in slots] for slots in model.FIXTURES]
     playing = {
-        roster[slot - 1][0]
-        for slots, match in zip(model.FIXTURES, matches)
-        if match.state == model.IN_PLAY
-        for slot in slots
+        club for both, match in zip(clubs, matches) for club in both if match.state == model.IN_PLAY
     }
     rows, lines = [], []
     for place in model.places(matches, roster, False):
-        row = [
-            place["place"],
-            [place["mark"], MEANINGS[place["mark"]]],
-            ["dot", "plays now"] if place["club"] in playing else ["", ""],
-            place["club"],
-        ]
-        row += [place[name] for name in FIGURES] + [
-            f"{place['goal_difference']:+}" if place["goal_difference"] else "0",
-            place["points"],
-        ]
-        rows.append(
-            [
-                [it.replace("-", "\u2212") for it in cell] if isinstance(cell, list) else str(cell)
-                for cell in row
-            ]
-        )
-        rows[-1][3], rows[-1][10] = place["club"], rows[-1][10].replace("-", "\u2212")
+        plays = ["dot", "plays now"] if place["club"] in playing else ["", ""]
+        mark = [minus(place["mark"]), MEANINGS[place["mark"]]]
+        figures = [str(place[name]) for name in FIGURES]
+        gain = minus(f"{place['goal_difference']:+}" if place["goal_difference"] else "0")
+        row = [str(place["place"]), mark, plays, place["club"], *figures, gain]
+        rows.append([*row, str(place["points"])])
     for game in games:
-        match, (home, away) = matches[game - 1], (
-            roster[slot - 1][0] for slot in model.FIXTURES[game - 1]
-        )
+        match, (home, away) = matches[game - 1], clubs[game - 1]
         lines.append(f"{STATES[match.state]}|{home}|{match.goals[0]}\u2013{match.goals[1]}|{away}")
     version = f"edition {edition}, " * bool(edition) + f"version {model.version(matches)}"
-    return {
-        "rows": rows,
-        "heads": HEADS,
-        "matches": lines or ["No match is in play"],
-        "version": version,
-        "signal": "",
-    }
+    heads, lines = HEADS.split(","), lines or ["No match is in play"]
+    return {"rows": rows, "heads": heads, "matches": lines, "version": version, "signal": ""}
 
 
 class BoardState(NamedTuple):
@@ -231,11 +172,8 @@ class BoardState(NamedTuple):
 
     def of(self, group=None, edition=0, clubs=()):
         """The same in another group, in another edition, or of other clubs."""
-        return self._replace(
-            group=group or self.group,
-            edition=edition,
-            roster=[(name, 0) for name in clubs] or self.roster,
-        )
+        roster = [(name, 0) for name in clubs] or self.roster
+        return self._replace(group=group or self.group, edition=edition, roster=roster)
 
 
 def season(group, year="2021-22"):
@@ -250,14 +188,8 @@ def season(group, year="2021-22"):
         for over in [[], games[:1], games[1:]] if len(games) == 2 else []:
             for number in over:
                 matches[number - 1].enter(2 - number % 2, "fulltime")
-            moments.append(
-                BoardState(
-                    group,
-                    [model.match_of(match.word()) for match in matches],
-                    roster,
-                    sorted(games),
-                )
-            )
+            now = [model.match_of(match.word()) for match in matches]
+            moments.append(BoardState(group, now, roster, sorted(games)))
         games = games if len(games) < 2 else []
     assert len(moments) == 18 and {match.state for match in matches} == {model.FINISHED}
     return moments
@@ -269,31 +201,11 @@ SEASON = {group: season(group) for group in "ABCDEFGH"}
 # ---- a browser
 
 
-@pytest.fixture(scope="module")
-def browser(tmp_path_factory):
-    """A browser, which is one for all tests."""
-    webdriver = pytest.importorskip(
-        "selenium.webdriver", reason="no selenium: python3-selenium has it"
-    )
-    conftest.needs("chromium", "chromedriver")
-    options, folder = webdriver.ChromeOptions(), tmp_path_factory.mktemp("browser")
-    for word in [*WORDS, f"--user-data-dir={folder}/kept"]:
-        options.add_argument(word)
-    with pytest.MonkeyPatch.context() as patch:
-        patch.setenv("HOME", str(folder))
-        browser = webdriver.Chrome(
-            service=webdriver.chrome.service.Service(conftest.shutil.which("chromedriver")),
-            options=options,
-        )
-    yield browser
-    browser.quit()
-
-
 class Sheet:
     """The page in a browser, without a board: it is given its lines."""
 
     def __init__(self, browser):
-        self.browser, self.run = browser, browser.execute_script
+        self.browser, self.run, self.cdp = browser, browser.execute_script, browser.execute_cdp_cmd
 
     def open(self, words, size=LARGE):
         """Opens the page with these words, in a browser that knows nothing of an evening."""
@@ -303,19 +215,20 @@ class Sheet:
         self.reload()
 
     def reload(self):
-        """Opens the page again, without a WebSocket, with a clock that tests can put ahead, and one that somebody has set back."""
+        """Opens the page again, with a clock that stands still until a test puts it ahead, and one that somebody has set back. No WebSocket is opened from a file, so no timer runs."""
         self.browser.refresh()
         self.run(
-            f"open = () => {{}}; window.ahead = 0; const now = performance.now.bind(performance); performance.now = () => now() + 1000 * ahead; Date.now = () => 0; {SHOWN} {INKS} {LOOK}"
+            f"open = () => {{}}; window.ahead = 0; const begun = performance.now(); performance.now = () => begun + 1000 * ahead; Date.now = () => 0; {SHOWN} {INKS} {LOOK}"
         )
 
     def resize(self, size):
-        """Makes the window as large as this."""
-        self.browser.execute_cdp_cmd(
-            "Emulation.setDeviceMetricsOverride",
-            dict(zip(["width", "height"], size), deviceScaleFactor=1, mobile=False),
-        )
-        assert until(lambda: self.run("return [innerWidth, innerHeight]") == [*size], 10)
+        """Makes the window as large as this, and waits until the page has been told, which is before a frame is drawn."""
+        sides = dict(zip(["width", "height"], size))
+        how = {**sides, "deviceScaleFactor": 1, "mobile": False}
+        self.cdp("Emulation.setDeviceMetricsOverride", how)
+        assert until(lambda: self.run("return [innerWidth, innerHeight]") == [*size])
+        frame = "requestAnimationFrame(() => requestAnimationFrame(arguments[0]))"
+        self.browser.execute_async_script(frame)
 
     def fonts(self):
         """Of the fonts those that are installed; where none is, it skips the test."""
@@ -334,6 +247,13 @@ class Sheet:
             self.resize(size)
             yield number, size, f"{font} at {size[0]}x{size[1]}"
 
+    def faults(self, *passed):
+        """What is wrong with how it looks, but for faults that have such a word, once the page has seen the size of its window."""
+        told = lambda: [
+            it for it in self.run("return look().faults") if not any(word in it for word in passed)
+        ]
+        return [] if until(lambda: told() == []) else told()
+
     def take(self, *lines):
         """Gives the page lines. Tells what it shows after them."""
         return self.rounds([lines])[0]["shown"]
@@ -341,6 +261,14 @@ class Sheet:
     def rounds(self, rounds):
         """Gives the page lines, one round after the other. Tells after each what it shows, and how it looks."""
         return self.run(ROUNDS, rounds)
+
+    def text(self, selector):
+        """The text of an element."""
+        return self.run("return document.querySelector(arguments[0]).textContent", selector)
+
+    def picture(self):
+        """A picture of what is shown, as PNG."""
+        return base64.b64decode(self.cdp("Page.captureScreenshot", {"format": "png"})["data"])
 
 
 @pytest.fixture
@@ -352,9 +280,8 @@ def sheet(browser):
 def check(sheet, rounds, name, least=0):
     """After each round of lines the page shows these moments, nothing is wrong with how it looks, columns are those of all other tables, letters are large."""
     columns = set()
-    for moments, it in zip(
-        rounds, sheet.rounds([[moment.line() for moment in moments] for moments in rounds])
-    ):
+    given = [[moment.line() for moment in moments] for moments in rounds]
+    for moments, it in zip(rounds, sheet.rounds(given)):
         assert it["faults"] == [], f"{name}, matches {moments[0].games} of {moments[0].roster}"
         assert it["shown"] == {moment.group: moment.shown() for moment in moments}, name
         assert it["letters"][0] >= least, name
@@ -382,39 +309,26 @@ def test_a_group_at_each_size_on_each_matchday(sheet):
 def test_the_wall_at_each_size_on_each_matchday(sheet):
     sheet.open("wall")
     for number, size, name in sheet.looks():
-        check(
-            sheet,
-            [
-                [it.of(edition=number) for it in moments]
-                for moments in [*zip(*SEASON.values())][:: 3 if number else 1]
-            ],
-            name,
-            SIZES[size][1],
-        )
+        walls = [*zip(*SEASON.values())][:: 3 if number else 1]
+        rounds = [[it.of(edition=number) for it in moments] for moments in walls]
+        check(sheet, rounds, name, SIZES[size][1])
 
 
 def large():
     """A group in which two clubs score all that can be, ten matches are over, and two in play."""
     matches = model.fresh()
     for number, (match, slots) in enumerate(zip(matches, model.FIXTURES), 1):
-        match.number, match.reporter, match.state = (
-            4094,
-            255,
-            model.IN_PLAY if number > 10 else model.FINISHED,
-        )
+        match.number, match.reporter = 4094, 255
+        match.state = model.IN_PLAY if number > 10 else model.FINISHED
         match.goals = [63 * (slot < 3) for slot in slots]
     return BoardState("A", matches, model.ROSTER, [11, 12])
 
 
+GERMAN = "Borussia Munchenglad,Wolverhampton Wander,Shakhtar Donetsk1936,Paris Saint-Germain1"
 NAMES = {
     "widest": ["W" * 20, "M" * 20, "@" * 20, "%" * 20],
     "one is wide": ["W" * 20, "i", "Alpha", "Bravo"],
-    "twenty letters": [
-        "Borussia Munchenglad",
-        "Wolverhampton Wander",
-        "Shakhtar Donetsk1936",
-        "Paris Saint-Germain1",
-    ],
+    "twenty letters": GERMAN.split(","),
     "no HTML": ["<b>A</b>", '"&amp;"', "a   b", "'"],
 }
 
@@ -427,17 +341,13 @@ def test_long_names_large_figures_and_no_signal(sheet, name, words):
     season = [moments[15] for moments in SEASON.values()][: 8 if words == "wall" else 1]
     moments = [moment.of(edition=12345, clubs=NAMES[name]) for moment in [large(), *season[1:]]]
     before, after = sheet.rounds([[it.line() for it in season], [it.line() for it in moments]])
-    assert (
-        after["shown"] == {it.group: it.shown() for it in moments}
-        and after["columns"] == before["columns"]
-    )
+    assert after["shown"] == {it.group: it.shown() for it in moments}
+    assert after["columns"] == before["columns"]
     sheet.run("ahead = 8; tell()")
     assert sheet.run("return shown().A.signal").startswith("No signal")
     for *_, font in sheet.looks():
-        faults = lambda: sheet.run(
-            "const it = look(); return it.fill < 0.85 ? ['letters are too small'] : it.faults"
-        )
-        assert until(lambda: faults() == [], 5) or faults() == [], font
+        assert sheet.faults() == [], font
+        assert until(lambda: sheet.run("return look().fill") >= 0.85), font
 
 
 @pytest.mark.quick
@@ -453,26 +363,18 @@ def test_another_count_of_matches_in_play(sheet, count):
 
 @pytest.mark.quick
 def test_letters_for_twenty_metres_and_the_picture(sheet, pytestconfig):
-    sheet.open("wall")
-    sheet.run("document.body.style.fontFamily = arguments[0]", FONTS[0])
     moments = [moments[15] for moments in SEASON.values()]
-    assert sheet.rounds([[moment.line() for moment in moments]])[0]["letters"][1] >= 24
-    sheet.open("group=A")
-    sheet.run("document.body.style.fontFamily = arguments[0]", FONTS[0])
-    assert sheet.rounds([[moments[0].line()]])[0]["letters"][1] >= 24
-    assert sheet.run("return document.querySelector('footer').textContent") == LEGEND
+    for words, them in ("wall", moments), ("group=A", moments[:1]):
+        sheet.open(words)
+        sheet.run("document.body.style.fontFamily = arguments[0]", FONTS[0])
+        assert sheet.rounds([[it.line() for it in them]])[0]["letters"][1] >= 24
+        assert sheet.text("footer") == LEGEND
     if pytestconfig.getoption("--picture", None):
         sheet.browser.get(f"{PAGE.as_uri()}?group=A")
-        tonight = sorted(moments[0].games)
-        sheet.run(
-            "for (const line of arguments[0]) take(line)",
-            [
-                HALL % ("Champions League 2021/22, matchday 6", "A", json.dumps({"A": tonight})),
-                moments[0].line(),
-            ],
-        )
-        picture = sheet.browser.execute_cdp_cmd("Page.captureScreenshot", {"format": "png"})["data"]
-        pathlib.Path(pytestconfig.getoption("--picture")).write_bytes(base64.b64decode(picture))
+        tonight = json.dumps({"A": sorted(moments[0].games)})
+        hall = HALL % ("Champions League 2021/22, matchday 6", "A", tonight)
+        sheet.run("for (const line of arguments[0]) take(line)", [hall, moments[0].line()])
+        pathlib.Path(pytestconfig.getoption("--picture")).write_bytes(sheet.picture())
 
 
 # ---- what it takes
@@ -489,33 +391,20 @@ def test_lines_of_other_groups(sheet):
     ]:
         sheet.open(words)
         assert sheet.take(*(it.line() for it in lines)) == {moment.group: moment.shown()}
-        assert sheet.run("return document.title") == f"Group {moment.group}"
+        assert sheet.browser.title == f"Group {moment.group}"
     sheet.open("wall")
     shown = sheet.take(b.line())
-    assert (
-        [*shown] == [*"ABCDEFGH"]
-        and shown["B"] == b.shown()
-        and [it["rows"] for group, it in shown.items() if group != "B"] == [[]] * 7
-    )
+    assert [*shown] == [*"ABCDEFGH"] and shown.pop("B") == b.shown()
+    assert [it["rows"] for it in shown.values()] == [[]] * 7
 
 
 @pytest.mark.quick
 def test_a_newer_screen_is_of_a_later_edition_or_of_the_same_and_a_higher_version(sheet):
-    moments = SEASON["A"]
     sheet.open("group=A")
-    steps = [
-        (3, 0, True),
-        (2, 0, False),
-        (4, 0, True),
-        (1, 1, True),
-        (5, 0, False),
-        (0, 1, False),
-        (2, 1, True),
-        (0, 10, True),
-        (5, 9, False),
-    ]
+    steps = [(3, 0, True), (2, 0, False), (4, 0, True), (1, 1, True), (5, 0, False)]
+    steps += [(0, 1, False), (2, 1, True), (0, 10, True), (5, 9, False)]
     for at, edition, is_newer in steps:
-        moment = moments[at].of(edition=edition)
+        moment = SEASON["A"][at].of(edition=edition)
         version = sheet.take(moment.line(at))["A"]["version"]
         last = moment.shown()["version"] if is_newer else last
         assert version == last, (at, edition)
@@ -528,64 +417,70 @@ def test_a_board_that_is_begun_again_takes_back_a_kick_off_and_brings_its_own_cl
     for game in wrong.games:
         wrong.matches[game - 1].enter(1, "kickoff")
     wrong.matches[1].enter(1, "goal-home")
-    mended = BoardState(
-        "A", [model.Match(), *wrong.matches[1:]], [("Atletico", 9), *wrong.roster[1:]], [2], 1
-    )
+    matches, clubs = [model.Match(), *wrong.matches[1:]], [("Atletico", 9), *wrong.roster[1:]]
+    mended = BoardState("A", matches, clubs, [2], 1)
     sheet.open("group=A")
-    assert [sheet.take(it.line(row))["A"] for row, it in enumerate([wrong, mended, wrong], 1)] == [
-        it.shown() for it in (wrong, mended, mended)
-    ]
+    for row, (it, stands) in enumerate([(wrong, wrong), (mended, mended), (wrong, mended)], 1):
+        assert sheet.take(it.line(row))["A"] == stands.shown()
     home, away = (mended.roster[slot - 1][0] for slot in model.FIXTURES[0])
-    assert (
-        sheet.run("return document.getElementById('news').textContent")
-        == f"Corrected. To come: {home} 0, {away} 0."
-    )
+    assert sheet.text("#news") == f"Corrected. To come: {home} 0, {away} 0."
+
+
+@pytest.mark.quick
+def test_what_a_screen_reader_is_told(sheet):
+    """The parts of the page by their roles; and of each goal and each phase of a match where it is shown."""
+    begun = season("A")[0]
+    game = begun.games[0]
+    sheet.open("group=A")
+    sheet.take(begun.line())
+    home, away = (begun.roster[slot - 1][0] for slot in model.FIXTURES[game - 1])
+    for word, told in ("goal-away", ""), ("fulltime", "Full time: "):
+        begun.matches[game - 1].enter(1, word)
+        sheet.take(begun.line())
+        goals = begun.matches[game - 1].goals
+        assert sheet.text("#news") == f"{told}{home} {goals[0]}, {away} {goals[1]}."
+    nodes = sheet.cdp("Accessibility.getFullAXTree", {})["nodes"]
+    told = [
+        (node["role"]["value"], node.get("name", {}).get("value", ""))
+        for node in nodes
+        if not node.get("ignored") and "role" in node
+    ]
+    counts = {"table": 1, "columnheader": 12, "rowheader": 4, "row": 5}
+    counts |= {"heading": 1, "list": 1, "listitem": 2}
+    assert {role: [it for it, _ in told].count(role) for role in counts} == counts
+    clubs = [row[3] for row in begun.shown()["rows"]]
+    assert [name for role, name in told if role == "rowheader"] == clubs
+    assert ("alert", "") in told
+    assert sheet.run("return document.getElementById('news').ariaLive") == "polite"
 
 
 @pytest.mark.quick
 def test_lines_that_tell_no_screen(sheet):
     moment = SEASON["A"][0]
     said = json.loads(moment.line())
+    first, *rest = said["matches"]
     changed = [
-        {"group": "I"},
-        {"group": 1},
-        {"version": "16"},
-        {"reply": "ok"},
-        {"table": [1, 2, 3]},
-        {"matches": []},
-    ]
-    changed += [{"edition": it} for it in ("1", 0.5, -1, 65536, None)]
-    changed += [
-        {"clubs": None},
-        {"table": [None] * 4},
-        {"matches": ["x"] * 12},
-        {"clubs": [None] * 4},
-    ]
-    changed += [
-        {"matches": [{**said["matches"][0], **it}, *said["matches"][1:]]}
-        for it in ({"home": 5}, {"away": 0}, {"state": "OVER"}, {"score": None})
+        *({"group": "I"}, {"group": 1}, {"version": "16"}, {"reply": "ok"}, {"table": [1, 2, 3]}),
+        *({"edition": it} for it in ("1", 0.5, -1, 65536, None)),
+        *({"matches": []}, {"clubs": None}, {"table": [None] * 4}, {"matches": ["x"] * 12}),
+        *({"clubs": [None] * 4}, {"matches": [first | {"home": 5}, *rest]}),
+        *(
+            {"matches": [first | {"away": 0}, *rest]},
+            {"matches": [first | {"state": "OVER"}, *rest]},
+        ),
+        {"matches": [first | {"score": None}, *rest]},
     ]
     lines = [json.dumps({**said, "version": 99, "row": at, **it}) for at, it in enumerate(changed)]
+    lines += ["", "x", "null", "3", "[]", "{}", '{"reply":"screen"}', "[" * 500]
     sheet.open("group=A")
     sheet.take(moment.line())
-    assert sheet.take(
-        "",
-        "x",
-        "null",
-        "3",
-        "[]",
-        "{}",
-        '{"reply":"screen"}',
-        "[" * 500,
-        moment.line()[:-20],
-        *lines,
-    ) == {"A": moment.shown()}
+    assert sheet.take(*lines, moment.line()[:-20]) == {"A": moment.shown()}
     assert sheet.take(SEASON["A"][1].line()) == {"A": SEASON["A"][1].shown()}
 
 
 @pytest.mark.quick
 def test_no_signal_where_nothing_comes_or_no_word_of_the_group(sheet):
-    """A screen is a sign of its group, and so is a pulse that names it, once its screen has come."""
+    """A screen is a sign of its group, and so is a pulse that names it, once its screen has come. Where a pulse does not name it that is told at once."""
     a, b = (SEASON[group][0] for group in "AB")
     pulse = lambda letters: json.dumps({"reply": "pulse", "groups": letters}, separators=(",", ":"))
     sheet.open("group=A")
@@ -605,6 +500,8 @@ def test_no_signal_where_nothing_comes_or_no_word_of_the_group(sheet):
         sheet.take(line)
         wait(2)
         assert signal() == told
+    sheet.take(pulse(""))
+    assert signal() == "No signal"
     sheet.open("wall")
     assert [group for group, it in sheet.take(b.line()).items() if it["signal"] == "No signal"] == [
         *"ACDEFGH"
@@ -651,29 +548,17 @@ def test_what_the_server_has(sheet):
     hall = lambda groups, tonight={}: HALL % ("Finals", groups, json.dumps(tonight))
     a, c = SEASON["A"][0], SEASON["C"][0]
     sheet.open("")
-    assert [*sheet.take(hall("A"))] == ["A"] and sheet.run(
-        "return document.title"
-    ) == "Finals: Group A"
-    games = [
-        *a.games,
-        next(game for game in range(1, 13) if a.matches[game - 1].state == model.SCHEDULED),
-    ]
-    shown = sheet.take(hall("A", tonight={"A": sorted(games)}), a.line())["A"]["matches"]
-    home, away = (a.roster[slot - 1][0] for slot in model.FIXTURES[games[-1] - 1])
+    assert [*sheet.take(hall("A"))] == ["A"] and sheet.browser.title == "Finals: Group A"
+    to_come = next(game for game in range(1, 13) if a.matches[game - 1].state == model.SCHEDULED)
+    tonight = {"A": sorted([*a.games, to_come])}
+    shown = sheet.take(hall("A", tonight=tonight), a.line())["A"]["matches"]
+    home, away = (a.roster[slot - 1][0] for slot in model.FIXTURES[to_come - 1])
     assert sorted(shown) == sorted([*a.shown()["matches"], f"To come|{home}|v|{away}"])
-    assert sheet.run(
-        "return [document.getElementById('title').textContent, document.querySelector('.standing').textContent]"
-    ) == ["Finals", "as it stands"]
-    assert [*sheet.take(hall("ABC"), c.line())] == [*"ABC"] and sheet.run(
-        "return document.title"
-    ) == "Finals: Groups A to C"
+    assert (sheet.text("#title"), sheet.text(".standing")) == ("Finals", "as it stands")
+    assert [*sheet.take(hall("ABC"), c.line())] == [*"ABC"]
+    assert sheet.browser.title == "Finals: Groups A to C"
     for _, size, font in sheet.looks():
-        assert (
-            sheet.run(
-                "return look().faults.filter((it) => !/a table has 0 rows|lines over|sizes/.test(it))"
-            )
-            == []
-        ), font
+        assert sheet.faults("a table has 0 rows", "lines over", "sizes") == [], font
     sheet.open("group=C")
     assert sheet.take(hall("ABC"), a.line(), c.line()) == {"C": c.shown()}
     sheet.open("wall")
@@ -687,12 +572,11 @@ def test_no_word_of_ours_on_a_public_screen_and_a_final_table(sheet):
     sheet.browser.get(f"{PAGE.as_uri()}?group=A")
     sheet.run(SHOWN)
     before, last = SEASON["A"][-3], SEASON["A"][-1].of(edition=3)
-    assert sheet.run(
-        "take(arguments[0]); take(arguments[1]); return shown()", before.line(), last.line()
-    )["A"] == {**last.shown(), "version": ""}
-    assert sheet.run("return document.querySelector('.standing').textContent") == "final"
-    words = sheet.run("return document.body.innerText + document.title").lower()
-    assert not [word for word in ("edition", "version", "board", "row") if word in words.split()]
+    sheet.run("take(arguments[0]); take(arguments[1])", before.line(), last.line())
+    assert sheet.run("return shown()")["A"] == {**last.shown(), "version": ""}
+    assert sheet.text(".standing") == "final"
+    words = sheet.run("return document.body.innerText + document.title").lower().split()
+    assert not {"edition", "version", "board", "row"} & {*words}
 
 
 @pytest.mark.quick
@@ -700,69 +584,55 @@ def test_an_overlay_is_the_table_alone_on_a_transparent_ground(sheet, tmp_path):
     image = pytest.importorskip("PIL.Image", reason="no Pillow: python3-pil has it")
     sheet.open("group=A&overlay")
     sheet.take(SEASON["A"][0].line())
-    sheet.browser.execute_cdp_cmd(
-        "Emulation.setDefaultBackgroundColorOverride", {"color": {"r": 0, "g": 0, "b": 0, "a": 0}}
-    )
+    ground = "Emulation.setDefaultBackgroundColorOverride"
+    sheet.cdp(ground, {"color": {"r": 0, "g": 0, "b": 0, "a": 0}})
     try:
-        picture = base64.b64decode(
-            sheet.browser.execute_cdp_cmd("Page.captureScreenshot", {"format": "png"})["data"]
-        )
+        (tmp_path / "overlay.png").write_bytes(sheet.picture())
     finally:
-        sheet.browser.execute_cdp_cmd("Emulation.setDefaultBackgroundColorOverride", {})
-    (tmp_path / "overlay.png").write_bytes(picture)
+        sheet.cdp(ground, {})
     alpha = image.open(tmp_path / "overlay.png").convert("RGBA").getchannel("A")
-    left, top, right, bottom = (
-        round(it)
-        for it in sheet.run(
-            "const it = document.querySelector('table').getBoundingClientRect(); return [it.left, it.top, it.right, it.bottom]"
-        )
-    )
+    left, top, right, bottom = map(round, edges(sheet, "table"))
     assert alpha.getextrema() == (0, 255) and alpha.getbbox() == (left, top, right, bottom)
     assert alpha.getpixel((left + 60, top + 8)) > 200 and bottom < LARGE[1] / 2
-    assert sheet.run(
-        "return [...document.querySelectorAll('header, footer, .matches, #title')].every((it) => it.offsetHeight === 0)"
+    others = "[...document.querySelectorAll('header, footer, .matches, #title')]"
+    assert sheet.run(f"return {others}.every((it) => it.offsetHeight === 0)")
+
+
+def edges(sheet, name):
+    """The left, upper, right and lower edge of an element."""
+    return sheet.run(
+        "const it = where(document.querySelector(arguments[0])); return [it.left, it.top, it.right, it.bottom]",
+        name,
     )
 
 
 @pytest.mark.quick
-def test_an_overlay_says_when_its_picture_is_old(sheet):
+@pytest.mark.parametrize(
+    "words, size", [("overlay", LARGE), ("overlay", (390, 844)), ("overlay&silent", LARGE)]
+)
+def test_an_overlay_says_when_its_picture_is_old(sheet, words, size):
     """By a mark that covers nothing and moves nothing; or it is hidden as a whole."""
-    moment, seen = (
-        SEASON["A"][0],
-        "return [...document.querySelectorAll('.signal, table')].map((it) => it.checkVisibility({checkVisibilityCSS: true}) && it.offsetHeight > 0)",
-    )
-    where = lambda name: sheet.run(
-        "const it = document.querySelector(arguments[0]).getBoundingClientRect(); return [it.left, it.top, it.right, it.bottom]",
-        name,
-    )
-    for words, is_old, size in (
-        ("overlay", [True, True], LARGE),
-        ("overlay", [True, True], (390, 844)),
-        ("overlay&silent", [False, False], LARGE),
-    ):
-        sheet.open(f"group=A&{words}", size)
-        sheet.run("tell()")
-        assert sheet.run(seen) == is_old
-        sheet.take(moment.line())
-        assert sheet.run(seen) == [False, True]
-        before = where("table")
-        sheet.run("ahead = 4; tell()")
-        assert sheet.run(seen) == [False, True]
-        sheet.run("ahead = 6; tell()")
-        assert sheet.run(seen) == is_old and where("table") == before
-        mark, table = where(".signal"), where("table")
-        if "silent" not in words:
-            assert (
-                table[0] < mark[0]
-                and mark[2] < table[2]
-                and table[1] < mark[1]
-                and sheet.run(
-                    "return inks().filter((ink) => !ink.parent.closest('header')).every((ink) => {"
-                    "const it = where(document.querySelector('.signal')); return ink.right <= it.left || ink.left >= it.right || ink.bottom <= it.top || ink.top >= it.bottom; })"
-                )
-            )
-        sheet.take(SEASON["A"][1].line())
-        assert sheet.run(seen) == [False, True] and sheet.take()["A"] == SEASON["A"][1].shown()
+    seen = "return [...document.querySelectorAll('.signal, table')].map((it) => it.checkVisibility({checkVisibilityCSS: true}) && it.offsetHeight > 0)"
+    is_old = ["silent" not in words] * 2
+    sheet.open(f"group=A&{words}", size)
+    sheet.run("tell()")
+    assert sheet.run(seen) == is_old
+    sheet.take(SEASON["A"][0].line())
+    assert sheet.run(seen) == [False, True]
+    before = edges(sheet, "table")
+    sheet.run("ahead = 4; tell()")
+    assert sheet.run(seen) == [False, True]
+    sheet.run("ahead = 6; tell()")
+    assert sheet.run(seen) == is_old and edges(sheet, "table") == before
+    if "silent" not in words:
+        mark = edges(sheet, ".signal")
+        assert before[0] < mark[0] and mark[2] < before[2] and before[1] < mark[1]
+        assert sheet.run(
+            "const it = where(document.querySelector('.signal')); return inks().filter((ink) => !ink.parent.closest('header')).every((ink) =>"
+            "ink.right <= it.left || ink.left >= it.right || ink.bottom <= it.top || ink.top >= it.bottom)"
+        )
+    sheet.take(SEASON["A"][1].line())
+    assert sheet.run(seen) == [False, True] and sheet.take()["A"] == SEASON["A"][1].shown()
 
 
 @pytest.mark.quick
@@ -772,17 +642,13 @@ def test_an_overlay_without_a_group_on_a_server_of_several(sheet):
     choice = lambda: sheet.run(
         "const it = document.getElementById('choice'); return it.offsetHeight > 0 ? it.textContent : ''"
     )
-    a, b = (SEASON[group][0] for group in "AB")
+    (a, _), (b, later) = (SEASON[group][:2] for group in "AB")
+    told = "Groups A, B: add &group=A to the address"
     sheet.open("overlay")
-    assert (
-        sheet.take(line("AB"), b.line(), a.line()) == {}
-        and choice() == "Groups A, B: add &group=A to the address"
-    )
+    assert sheet.take(line("AB"), b.line(), a.line()) == {} and choice() == told
     assert sheet.take(line("B"), a.line(), b.line()) == {"B": b.shown()} and choice() == ""
-    assert (
-        sheet.take(line("AB"), a.line(), SEASON["B"][1].line()) == {"B": SEASON["B"][1].shown()}
-        and choice() != ""
-    )
+    assert sheet.take(line("AB"), a.line(), later.line()) == {"B": later.shown()}
+    assert choice() == told
     for words, letters in ("overlay&group=b", "B"), ("overlay&wall", "AB"), ("", "AB"):
         sheet.open(words)
         assert [*sheet.take(line("AB"))] == [*letters] and choice() == ""
@@ -809,26 +675,18 @@ def test_matches_that_are_over_stay_until_their_clubs_play_again(sheet):
     for moment in [*first, *second]:
         assert sheet.take(moment.line()) == {"A": moment.shown()}
     sheet.reload()
-    changed = model.match_of(second[2].matches[first[2].games[0] - 1].word())
+    place, matches = first[2].games[0] - 1, [*second[2].matches]
+    matches[place] = model.match_of(matches[place].word())
     for word in "reopen", "fulltime":
-        changed.enter(1, word)
-    later = second[2]._replace(
-        matches=[
-            changed if game == first[2].games[0] else it
-            for game, it in enumerate(second[2].matches, 1)
-        ],
-        edition=1,
-    )
+        matches[place].enter(1, word)
+    later = second[2]._replace(matches=matches, edition=1)
     for moment in second[2], later, third[0].of(edition=1):
         assert sheet.take(moment.line()) == {"A": moment.shown()}
     last = SEASON["A"][14]._replace(matches=[*SEASON["A"][14].matches])
     last.matches[7] = model.match_of("2001000000001001")
     for moment, games in (
-        (first[1], [6, 7]),
-        (second[1], [2, 9]),
-        (SEASON["A"][10], [12]),
-        (last, [8]),
-        (third[2], []),
+        *((first[1], [6, 7]), (second[1], [2, 9]), (SEASON["A"][10], [12])),
+        *((last, [8]), (third[2], [])),
     ):
         sheet.open("group=A")
         assert sheet.take(moment.line()) == {"A": moment._replace(games=games).shown()}
@@ -843,213 +701,64 @@ def test_seasons_that_are_replayed(browser):
     """Whoever has the page and a server of files sees a matchday, or a season of a group or of all, which end as they did."""
     port = free_port()
     shown = lambda: browser.execute_script(SHOWN + "return shown()")
-    ends = {
-        year: {letter: season(letter, year)[-1].shown() for letter in seasons.LETTERS}
-        for year in seasons.SEASONS
-    }
     asked = [
-        ("replay&wall", "2021-22", "ABCDEFGH"),
-        ("replay&group=C", "2021-22", "C"),
-        ("replay", "2021-22", "A"),
-        ("replay=2022-23&wall", "2022-23", "ABCDEFGH"),
+        *(("replay&wall", "2021-22", "ABCDEFGH"), ("replay&group=C", "2021-22", "C")),
+        *(("replay", "2021-22", "A"), ("replay=2022-23&wall", "2022-23", "ABCDEFGH")),
     ]
-    asked += [
-        (f"replay={year}&group={letter}", year, letter)
-        for year, letter in zip(seasons.SEASONS, "BHE")
-    ]
-    with conftest.Started(
-        ["/usr/bin/python3", "-m", "http.server", "--bind", "127.0.0.1", str(port)], cwd=PAGE.parent
-    ) as server:
-        until(lambda: not socket.socket().connect_ex(("127.0.0.1", port)))
+    for year, letter in zip(seasons.SEASONS, "BHE"):
+        asked.append((f"replay={year}&group={letter}", year, letter))
+    files = ["/usr/bin/python3", "-m", "http.server", "--bind", "127.0.0.1", str(port)]
+    with Started(files, cwd=PAGE.parent):
+        assert until(lambda: is_reached(port), 60)
         for words, year, letters in asked:
             browser.get(f"http://127.0.0.1:{port}/?{words}&pace=1&details")
-            wanted = {letter: {**ends[year][letter], "signal": "Replay"} for letter in letters}
-            until(lambda: shown() == wanted, 40)
+            ends = {letter: season(letter, year)[-1].shown() for letter in letters}
+            wanted = {letter: {**end, "signal": "Replay"} for letter, end in ends.items()}
+            until(lambda: shown() == wanted, 60)
             assert shown() == wanted, words
         browser.get(f"http://127.0.0.1:{port}/?replay=2020-21&group=A")
         assert until(lambda: shown()["A"]["signal"] == "No recording", 20)
-        server.kill()
 
 
 # ---- with a server
 
 
-class Page:
-    """A page in a browser, with a server of a record, and the board by the rules."""
+@pytest.mark.parametrize("end", [signal.SIGKILL, signal.SIGSTOP])
+def test_an_evening_whose_server_is_gone_for_a_while(hall, browser, end):
+    """Each event is shown, also by a page that is opened later; where nothing comes that is told, and the page goes on by itself, with what was mended meanwhile."""
+    one, matches = hall(), model.fresh()
+    Sheet(browser).resize(LARGE)
+    browser.get(f"http://127.0.0.1:{one.port}/?silence=4&details")
 
-    def __init__(self, hall, browser):
-        self.browser, self.matches, self.hall = browser, model.fresh(), hall()
-        Sheet(browser).resize(LARGE)
-        browser.get(f"http://127.0.0.1:{self.hall.port}/?silence={SILENCE}&details")
-        browser.execute_script("localStorage.clear()")
-        browser.refresh()
+    def enter(*events):
+        """Appends events to the record, as a reporter at a terminal does."""
+        with open(one.folder / "a.csv", "a") as record:
+            for game, word in events:
+                record.write(f"1,{game},{matches[game - 1].number},{word}\n")
+                matches[game - 1].enter(1, word)
 
-    def append(self, rows):
-        """Appends rows to the record, as a reporter at a terminal does."""
-        with open(self.hall.folder / "a.csv", "a") as record:
-            record.write(rows)
-
-    def enter(self, *events):
-        """Has a reporter enter events, each a match and a word."""
-        rows = []
-        for number, word in events:
-            rows.append(f"1,{number},{self.matches[number - 1].number},{word}\n")
-            self.matches[number - 1].enter(1, word)
-        self.append("".join(rows))
-
-    def play(self):
-        """Ten matches that are finished, and two in play."""
-        events = [
-            (number, [*["goal-home"] * home, *["goal-away"] * away, "fulltime"])
-            for number, (home, away) in FINISHED.items()
-        ]
-        self.enter(
-            *[
-                (number, word)
-                for number, words in [*events, (11, []), (12, ["goal-home"])]
-                for word in ["kickoff", *words]
-            ]
-        )
-
-    def news(self, number):
-        """What is told of a match in which a goal was scored."""
-        home, away = (model.ROSTER[slot - 1][0] for slot in model.FIXTURES[number - 1])
-        return "{0} {1}, {3} {2}.".format(home, *self.matches[number - 1].goals, away)
-
-    def wanted(self):
-        """What the page has to show."""
-        return shown_of(
-            self.matches,
-            model.ROSTER,
-            [
-                number
-                for number, match in enumerate(self.matches, 1)
-                if match.state == model.IN_PLAY
-            ],
-        )
-
-    def got(self):
-        """What the page shows, and what it last told who listens."""
-        return self.browser.execute_script(
-            SHOWN
-            + "return {...shown().A, news: (document.getElementById('news') || {}).textContent}"
-        )
-
-    def shows(self, **more):
+    def shows(games, edition=0, **more):
         """Awaits that the page shows what it has to."""
-        wanted = {**self.wanted(), **more}
-        until(lambda: {**self.got(), **wanted} == self.got(), 30)
-        assert {name: it for name, it in self.got().items() if name in wanted} == wanted
+        wanted = {**shown_of(matches, model.ROSTER, games, edition), **more}
+        shown = lambda: browser.execute_script(SHOWN + "return shown()").get("A")
+        until(lambda: shown() == wanted, 60)
+        assert shown() == wanted
 
-
-@pytest.fixture
-def page(hall, browser):
-    """A page in a browser, with a server."""
-    return Page(hall, browser)
-
-
-def test_goals(page):
-    page.shows()
-    page.play()
-    page.shows()
-    for match, word in (11, "goal-home"), (12, "goal-away"), (11, "goal-home"):
-        page.enter((match, word))
-        page.shows(news=page.news(match))
-    page.browser.refresh()
-    page.shows()
-
-
-def test_what_a_screen_reader_is_told(page):
-    page.play()
-    page.shows()
-    nodes = page.browser.execute_cdp_cmd("Accessibility.getFullAXTree", {})["nodes"]
-    told = [
-        (node["role"]["value"], node.get("name", {}).get("value", ""))
-        for node in nodes
-        if not node.get("ignored") and "role" in node
-    ]
-    counts = {
-        role: sum(it == role for it, _ in told)
-        for role in ("table", "columnheader", "rowheader", "row", "heading", "list", "listitem")
-    }
-    assert counts == {
-        "table": 1,
-        "columnheader": 12,
-        "rowheader": 4,
-        "row": 5,
-        "heading": 1,
-        "list": 1,
-        "listitem": 2,
-    }
-    assert [name for role, name in told if role == "rowheader"] == [
-        row[3] for row in page.wanted()["rows"]
-    ]
-    assert ("alert", "") in told
-    assert (
-        page.browser.execute_script(
-            "return document.getElementById('news').getAttribute('aria-live')"
-        )
-        == "polite"
-    )
-
-
-def test_a_mend(page):
-    """Without a kick-off, and with another name: each is one moment, and the page shows nothing between."""
-    page.enter((1, "kickoff"), (2, "kickoff"), (2, "goal-home"))
-    page.shows()
-    page.browser.execute_script(NOTED)
-    page.append("mend,6,,\n")
-    page.matches[0] = model.Match()
-    page.shows(
-        **shown_of(page.matches, model.ROSTER, [2], 1),
-        news="Corrected. To come: Bravo 0, Charlie 0.",
-    )
-    page.append('club,1,Alfa,"60000"\n')
-    page.shows(**shown_of(page.matches, [("Alfa", 60_000), *model.ROSTER[1:]], [2], 2))
-    assert page.browser.execute_script("return noted") == [
-        "edition 1, version 2",
-        "edition 2, version 2",
-    ]
-
-
-@pytest.mark.parametrize("part", ["the program", "the server", "the server, stopped"])
-def test_what_is_shown_where_a_part_is_gone_and_a_page_that_goes_on_by_itself(page, part):
-    page.enter((1, "kickoff"))
-    page.shows()
-    if part == "the program":
-        for child in page.hall.live():
-            os.kill(child, signal.SIGKILL)
+    shows([])
+    enter((1, "kickoff"), (2, "kickoff"), (2, "goal-home"))
+    shows([1, 2])
+    enter((1, "goal-away"))
+    shows([1, 2])
+    browser.refresh()
+    shows([1, 2])
+    one.process.send_signal(end)
+    shows([1, 2], signal="No signal")
+    with open(one.folder / "a.csv", "a") as record:
+        record.write("mend,6,,\n")
+    matches[0] = model.Match()
+    if end == signal.SIGKILL:
+        one.process.wait()
+        one.start()
     else:
-        page.hall.process.send_signal(signal.SIGKILL if part == "the server" else signal.SIGSTOP)
-        page.shows(signal="No signal")
-        time.sleep(2)
-        assert page.got()["signal"] == "No signal"
-        if part == "the server":
-            page.hall.process.wait()
-            page.hall.start()
-        else:
-            page.hall.process.send_signal(signal.SIGCONT)
-    page.enter((1, "goal-home"))
-    page.shows()
-
-
-def test_a_wall_of_eight(hall, browser):
-    """Each group has its own record, and the page of the server is their wall."""
-    one = hall("--title", "Matchday 6", records=[f"{letter}.csv" for letter in "abcdefgh"])
-    browser.get(f"http://127.0.0.1:{one.port}/?details")
-    matches = {letter: model.fresh() for letter in "ABCDEFGH"}
-    for at, letter in enumerate(matches):
-        events = [
-            (number, word) for number in range(1, 3) for word in ["kickoff", *["goal-home"] * at]
-        ]
-        with open(one.folder / f"{letter.lower()}.csv", "a") as record:
-            for number, word in events:
-                record.write(f"1,{number},{matches[letter][number - 1].number},{word}\n")
-                matches[letter][number - 1].enter(1, word)
-    wanted = {letter: shown_of(them, model.ROSTER, [1, 2]) for letter, them in matches.items()}
-    shown = lambda: browser.execute_script(SHOWN + "return shown()")
-    until(lambda: shown() == wanted, 20)
-    assert shown() == wanted and browser.title == "Matchday 6: Groups A to H"
-    browser.get(f"http://127.0.0.1:{one.port}/?details&group=h")
-    until(lambda: shown() == {"H": wanted["H"]}, 20)
-    assert shown() == {"H": wanted["H"]}
+        one.process.send_signal(signal.SIGCONT)
+    shows([2], 1)

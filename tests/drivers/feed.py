@@ -10,8 +10,10 @@ from drivers.websocket import Said
 class Feed:
     """Who reads a feed, line by line."""
 
-    def __init__(self, port: int, path: str = "/feed") -> None:
-        self.connection = http.client.HTTPConnection("127.0.0.1", port, timeout=15)
+    def __init__(self, port: int, path: str = "/feed", source: str = "127.0.0.1") -> None:
+        self.connection = http.client.HTTPConnection(
+            "127.0.0.1", port, timeout=30, source_address=(source, 0)
+        )
         self.connection.request("GET", path)
         self.answer = self.connection.getresponse()
         self.lines: list[Said] = []

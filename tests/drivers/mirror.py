@@ -24,7 +24,7 @@ class Mirror:
         self.process = Started([SERVE, *self.words, *listen], env=self.env)
         self.printed = self.process.lines(1)
 
-    def shows(self, version: int, edition: int = 0, group: str = "A", seconds: float = 15) -> bool:
+    def shows(self, version: int, edition: int = 0, group: str = "A", seconds: float = 30) -> bool:
         """Whether it shows this moment of a group soon."""
         wanted = [edition, version]
 

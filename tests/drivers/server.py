@@ -1,6 +1,5 @@
 """A server of records in a folder, and what it says to who asks."""
 
-import http.client
 import json
 import os
 import pathlib
@@ -18,15 +17,18 @@ SERVE = TOP / "ucl_serve"
 CLUBS = EXAMPLES / "one_goal.csv"
 
 
-def got(port: int, path: str, **headers: str) -> tuple[int, dict[str, str], str]:
-    """The status, the headers and the body of an answer."""
-    connection = http.client.HTTPConnection("127.0.0.1", port, timeout=15)
-    named = {name.replace("_", "-"): value for name, value in headers.items()}
-    connection.request("GET", path, headers=named)
-    answer = connection.getresponse()
-    body = answer.read().decode()
-    connection.close()
-    return answer.status, {name.lower(): value for name, value in answer.getheaders()}, body
+def got(
+    port: int, path: str, *headers: str, host: bool = True, source: str = "127.0.0.1"
+) -> tuple[int, dict[str, str], str]:
+    """The status, the headers and the body of an answer to who asks with these lines more."""
+    lines = [f"GET {path} HTTP/1.1", *[f"Host: 127.0.0.1:{port}"] * host, *headers]
+    with socket.create_connection(("127.0.0.1", port), 30, (source, 0)) as one:
+        one.sendall("\r\n".join([*lines, "", ""]).encode())
+        answer = b"".join(iter(lambda: one.recv(1 << 16), b""))
+    head, _, body = answer.partition(b"\r\n\r\n")
+    status, *lines = head.decode().split("\r\n")
+    pairs = [line.partition(": ") for line in lines]
+    return int(status.split()[1]), {name.lower(): it for name, _, it in pairs}, body.decode()
 
 
 def health(port: int) -> Said:
@@ -75,23 +77,13 @@ class Server:
         keys = dict(line.split() for line in lines if line)
         return keys[str(number)]
 
-    def get(
-        self, path: str, *headers: str, host: bool = True, source: str = "127.0.0.1"
-    ) -> tuple[int, dict[str, str], str]:
+    def get(self, path: str, *headers: str, **how: Any) -> tuple[int, dict[str, str], str]:
         """The status, the headers and the body of an answer."""
-        lines = [f"GET {path} HTTP/1.1", *[f"Host: 127.0.0.1:{self.port}"] * host, *headers]
-        with socket.create_connection(("127.0.0.1", self.port), 10, (source, 0)) as one:
-            one.sendall("\r\n".join([*lines, "", ""]).encode())
-            answer = b"".join(iter(lambda: one.recv(1 << 16), b""))
-        head, _, body = answer.partition(b"\r\n\r\n")
-        status, *lines = head.decode().split("\r\n")
-        pairs = [line.partition(": ") for line in lines]
-        return int(status.split()[1]), {name.lower(): it for name, _, it in pairs}, body.decode()
+        return got(self.port, path, *headers, **how)
 
     def health(self) -> Said:
         """What it tells whoever watches it."""
-        said: Said = json.loads(self.get("/health")[2])
-        return said
+        return health(self.port)
 
     def screen(self, **how: Any) -> Socket:
         """A screen."""

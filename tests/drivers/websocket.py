@@ -27,7 +27,7 @@ class Socket:
         self.socket = socket.socket()
         if room:
             self.socket.setsockopt(socket.SOL_SOCKET, socket.SO_RCVBUF, room)
-        self.socket.settimeout(15)
+        self.socket.settimeout(30)
         self.socket.bind((source, 0))
         self.socket.connect(("127.0.0.1", port))
         if context:
