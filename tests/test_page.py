@@ -621,8 +621,27 @@ def test_for_how_long_there_is_no_signal(sheet):
     for seconds, told in (4, ""), (8, "12 s"), (30, "42 s"):
         sheet.run(f"ahead += {seconds}")
         assert sheet.run(old) == told
-    sheet.take(a.line())
+    sheet.take(SEASON["A"][1].line())
     assert sheet.run(old) == ""
+
+
+@pytest.mark.quick
+def test_servers_that_hear_of_no_board_greet_a_page_in_turn(sheet):
+    """Each gives the screen that it has and says that the board is gone: the page goes on to tell for how long."""
+    a = SEASON["A"][0].line()
+    pulse = lambda letters: json.dumps({"reply": "pulse", "groups": letters}, separators=(",", ":"))
+    sheet.open("group=A")
+    sheet.take(a, pulse("A"))
+    told = []
+    for _ in range(3):
+        sheet.run("ahead += 2")
+        sheet.take(a)
+        told.append(sheet.run("tell(); return document.querySelector('.signal').dataset.old"))
+        sheet.take(pulse(""))
+        told.append(sheet.run("tell(); return document.querySelector('.signal').dataset.old"))
+    assert told == [None, "2 s", "4 s", "4 s", "6 s", "6 s"]
+    sheet.take(a, pulse("A"))
+    assert sheet.run("return shown()")["A"]["signal"] == ""
 
 
 @pytest.mark.quick
