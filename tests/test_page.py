@@ -441,6 +441,20 @@ def test_long_names_large_figures_and_no_signal(sheet, name, words):
 
 
 @pytest.mark.quick
+def test_a_score_of_four_digits_stands_apart_from_the_names(sheet):
+    gap = """const edge = (line, kind) => { const it = document.createRange(); it.selectNodeContents(line.querySelector(kind)); return it.getBoundingClientRect(); };
+        return Math.min(...[...document.querySelectorAll(".match")].map((line) => {
+            const [home, score, away] = [".home", ".score", ".away"].map((kind) => edge(line, kind));
+            return Math.min(score.left - home.right, away.left - score.right) / parseFloat(getComputedStyle(line).fontSize);
+        }));"""
+    sheet.open("group=A")
+    assert "In play|Bravo|63\u201363|Alpha" in sheet.take(large().line())["A"]["matches"]
+    for _, size, font in sheet.looks():
+        if size[0] > size[1]:
+            assert until(lambda: sheet.run(gap) > 0.15, 5), font
+
+
+@pytest.mark.quick
 @pytest.mark.parametrize("count", [0, 1, 3, 12])
 def test_another_count_of_matches_in_play(sheet, count):
     sheet.open("group=A")
