@@ -185,10 +185,20 @@ def test_what_takes_a_second_tap(phone: Phone, event: str) -> None:
         phone.begin(STARTED)
     phone.tap(event)
     phone.begin(STARTED + "2,1,3,goal-away\n")
+    assert phone.notes()[event] == ""
     phone.tap(event)
     assert phone.sent() == [] and phone.notes()[event] == "Tap again"
     phone.tap(event)
     assert phone.sent() == [{"match": 1, "edition": 0, "expected": 4, "event": event}]
+
+
+def test_a_question_that_another_button_puts_aside(phone: Phone) -> None:
+    """No button asks for a second tap that would be taken for the first."""
+    phone.begin(STARTED)
+    phone.tap("red-home", "yellow-home")
+    assert phone.notes()["red-home"] == "" and len(phone.sent()) == 1
+    phone.tap("red-home", "red-away")
+    assert [phone.notes()[it] for it in ("red-home", "red-away")] == ["", "Tap again"]
 
 
 def test_without_a_pulse(phone: Phone) -> None:
@@ -206,6 +216,15 @@ def test_without_a_pulse(phone: Phone) -> None:
     ask = phone.run("return sent().at(-1)")
     first = phone.run("return sent()[0]")
     assert ask == {"ask": first.pop("tap"), **first} and phone.text("line") != offline
+
+
+def test_a_mend_that_leaves_out_more(phone: Phone) -> None:
+    """Without its kick-off no event of a match stands."""
+    phone.begin(STARTED)
+    lines = lines_to(STARTED + "mend,6,,\n")
+    phone.hear(*[line for line in lines if b"mended" in line or b"screen" in line][-2:])
+    wanted = "Corrected: row 6 and 2 more no longer count: look before you tap"
+    assert phone.text("line") == wanted and phone.text("goals") == "v"
 
 
 def test_a_mend(phone: Phone) -> None:
