@@ -284,6 +284,21 @@ def test_a_second_phone_of_a_link(hall, browsers):
 # ---- no connection
 
 
+def test_a_link_that_has_ended(hall, phone):
+    """The phone says so, and not that there is no connection; it goes on if the link is known again."""
+    one = hall("--reporter", "1")
+    keys = (one.folder / "a.csv.keys").read_bytes()
+    phone.open(one)
+    one.end()
+    assert until(lambda: phone.line() == OFFLINE, 10)
+    one.start("--revoke", "1")
+    assert until(lambda: phone.line() == "This link has ended: ask for a new one", 20)
+    one.end()
+    (one.folder / "a.csv.keys").write_bytes(keys)
+    one.start()
+    assert until(lambda: phone.line() == "Reporter 1, group A", 20)
+
+
 @pytest.mark.parametrize("end", ["it is killed", "it goes on"])
 def test_the_server_is_stopped_and_then(hall, phone, end):
     """All is grey, and nothing is sent nor queued, whatever clock the phone has. A tap without an answer is asked about, and is not sent again."""
