@@ -351,6 +351,20 @@ def test_long_names_large_figures_and_no_signal(sheet, name, words):
 
 
 @pytest.mark.quick
+def test_a_score_of_four_digits_stands_apart_from_the_names(sheet):
+    gap = """const edge = (line, kind) => { const it = document.createRange(); it.selectNodeContents(line.querySelector(kind)); return it.getBoundingClientRect(); };
+        return Math.min(...[...document.querySelectorAll(".match")].map((line) => {
+            const [home, score, away] = [".home", ".score", ".away"].map((kind) => edge(line, kind));
+            return Math.min(score.left - home.right, away.left - score.right) / parseFloat(getComputedStyle(line).fontSize);
+        }));"""
+    sheet.open("group=A")
+    assert "In play|Bravo|63\u201363|Alpha" in sheet.take(large().line())["A"]["matches"]
+    for _, size, font in sheet.looks():
+        if size[0] > size[1]:
+            assert until(lambda: sheet.run(gap) > 0.15, 5), font
+
+
+@pytest.mark.quick
 @pytest.mark.parametrize("count", [0, 1, 3, 12])
 def test_another_count_of_matches_in_play(sheet, count):
     sheet.open("group=A")
@@ -518,7 +532,7 @@ def test_for_how_long_there_is_no_signal(sheet):
     for seconds, told in (4, ""), (8, "12 s"), (30, "42 s"):
         sheet.run(f"ahead += {seconds}")
         assert sheet.run(old) == told
-    sheet.take(a.line())
+    sheet.take(SEASON["A"][1].line())
     assert sheet.run(old) == ""
 
 
@@ -540,6 +554,25 @@ def test_a_wall_says_of_each_group_for_how_long_there_is_no_signal(sheet):
         sheet.run("ahead = 120; tell()")
         assert sheet.run(told) == [True] * 8, name
         assert sheet.run(heights) == before and sheet.run("return look().faults") == [], name
+
+
+@pytest.mark.quick
+def test_servers_that_hear_of_no_board_greet_a_page_in_turn(sheet):
+    """Each gives the screen that it has and says that the board is gone: the page goes on to tell for how long."""
+    a = SEASON["A"][0].line()
+    pulse = lambda letters: json.dumps({"reply": "pulse", "groups": letters}, separators=(",", ":"))
+    sheet.open("group=A")
+    sheet.take(a, pulse("A"))
+    told = []
+    for _ in range(3):
+        sheet.run("ahead += 2")
+        sheet.take(a)
+        told.append(sheet.run("tell(); return document.querySelector('.signal').dataset.old"))
+        sheet.take(pulse(""))
+        told.append(sheet.run("tell(); return document.querySelector('.signal').dataset.old"))
+    assert told == [None, "2 s", "4 s", "4 s", "6 s", "6 s"]
+    sheet.take(a, pulse("A"))
+    assert sheet.run("return shown()")["A"]["signal"] == ""
 
 
 @pytest.mark.quick

@@ -226,10 +226,21 @@ def test_what_takes_a_second_tap(page: Page, event: str, rows: str) -> None:
         page.click(event)
         expected += 1
         page.begin(f"{rows}2,1,3,goal-away\n")
+        assert page.notes()[event] == ""
     page.click(event)
     assert page.sent() == [] and page.notes()[event] == "Tap again"
     page.click(event)
     assert page.sent() == [tap_of(event, expected)]
+
+
+def test_a_question_that_another_button_puts_aside(page: Page) -> None:
+    """No button asks for a second tap that would be taken for the first."""
+    page.begin(STARTED)
+    page.choose(1)
+    page.click("red-home", "yellow-home")
+    assert page.notes()["red-home"] == "" and len(page.sent()) == 1
+    page.click("red-home", "red-away")
+    assert [page.notes()[it] for it in ("red-home", "red-away")] == ["", "Tap again"]
 
 
 def test_take_back(page: Page) -> None:
@@ -292,6 +303,14 @@ def test_a_mend(page: Page) -> None:
     assert page.text("goals") == "0\N{EN DASH}0"
     page.click("goal-away")
     assert page.sent() == [tap_of("goal-away", 2, edition=1)]
+
+
+def test_a_mend_that_leaves_out_more(page: Page) -> None:
+    """Without its kick-off no event of a match stands."""
+    page.begin(STARTED)
+    page.hear(*mended(STARTED, 6))
+    wanted = "Corrected: row 6 and 2 more no longer count: look before you tap"
+    assert page.text("line") == wanted and page.text("goals") == "v"
 
 
 # ---- for everybody
