@@ -7,6 +7,7 @@ use std::sync::Wait;
 use std::test::Fail;
 use std::thread;
 use std::thread::Threads;
+use ucl_board::Board;
 use ucl_pass::{CellBoard, LiveBoard, Strangers, TooManyReporters, settle};
 use ucl_word::Kind::{Disallow, FullTime, Goal, KickOff, Reopen, SecondYellow, Yellow};
 use ucl_word::Side::{Away, Home};
@@ -343,23 +344,37 @@ fn first_late<B: LiveBoard, R: Wait>(
     None
 }
 
-/// Takes 1,000 readings, and says whether no version was below the one before.
+/// Whether a board has the first `version` of the events that `enter_all` enters, one match after the other, and no more.
+fn has_first(board: &Board, version: u16) -> bool {
+    let mut left = version;
+    for game in (1..13).filter_map(MatchNo::new) {
+        let number = left.min(MOST);
+        if board.game(game).number != number {
+            return false;
+        }
+        left = left.saturating_sub(number);
+    }
+    left == 0
+}
+
+/// Takes 1,000 readings while all events are entered, and says whether no version was below the one before, and each board has as many of
+/// the events, from the first on, as its version tells.
 fn versions_rise<B: LiveBoard, R: Wait>(rt: &R, board: &B, mut pass: B::ReaderPass) -> bool
     requires { B.is_reader board.now pass }
 {
     let mut least = 0;
     for _ in 0..1000u16 {
-        let version = version_read(rt, board, &mut pass);
-        if version < least {
+        let reading = board.read(rt, &mut pass);
+        if reading.version < least || !has_first(&reading.board, reading.version) {
             return false;
         }
-        least = version;
+        least = reading.version;
     }
     true
 }
 
 /// Has a reporter enter all events that a board can take while two readers read, each in a thread of its own. Returns the accepted events
-/// and the version; the first later event that is not refused as it has to be; and whether the versions of each reader never fell.
+/// and the version; the first later event that is not refused as it has to be; and whether what each reader read was right.
 fn all_events_on<B: LiveBoard, R: Threads + Wait + Sync>(
     rt: &R,
     board: &B,
@@ -395,7 +410,7 @@ fn all_events_on<B: LiveBoard, R: Threads + Wait + Sync>(
     Some((entered, late, [one, two]))
 }
 
-/// Both kinds of boards take 49,140 events, and refuse each later one, while the versions that two readers read never fall.
+/// Both kinds of boards take 49,140 events, and refuse each later one. What two readers read meanwhile never falls, and is never of two moments.
 #[test]
 fn all_events_with_two_readers(rt: HostRuntime) -> Result<(), Fail> {
     let (board, reader) = CellBoard::open(&rt, rt.alloc())?;
