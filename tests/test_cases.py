@@ -634,9 +634,10 @@ def test_input_that_cannot_be_read(run, line):
     os.close(folder)
 
 
-def test_input_without_end(run):
+@pytest.mark.parametrize("word", ["feed", "show", "night"])
+def test_input_without_end(run, word):
     with subprocess.Popen(["yes"], stdout=subprocess.PIPE, stderr=subprocess.DEVNULL) as source:
-        assert run("ucl_night", "feed", stdin=source.stdout) == (
+        assert run("ucl_night", word, stdin=source.stdout) == (
             3,
             "",
             "input refused 24: too long\n",
