@@ -271,31 +271,38 @@ fn all_numbers(rt: HostRuntime) -> Result<(), Fail> {
 /// How many events a match can have, the last of which is full time.
 const MOST: u16 = 4095;
 
-/// Enters all events that a match can have: a kick-off, a home goal and its disallowing in turn, and full time.
-fn enter_match<B: LiveBoard, R: Wait>(rt: &R, board: &B, pass: &mut B::ReporterPass, game: MatchNo)
-    requires { B.is_reporter board.now pass.old }
-    ensures { B.is_reporter board.now pass.new }
-{
-    for expected in 0..MOST {
-        let kind = match expected {
-            0 => KickOff,
-            4094 => FullTime,
-            _ if expected % 2 == 1 => Goal(Home),
-            _ => Disallow(Home),
-        };
-        let _reply = reply_to(rt, board, pass, (game, expected, kind));
+/// The kind of the event with this expected number, of as many as a match can have: a kick-off, a home goal and its disallowing in turn, and
+/// full time.
+fn kind_at(expected: u16) -> Kind {
+    match expected {
+        0 => KickOff,
+        4094 => FullTime,
+        _ if expected % 2 == 1 => Goal(Home),
+        _ => Disallow(Home),
     }
 }
 
-/// Enters all events that each of the twelve matches can have. Returns how many were accepted, and the version that is read then.
+/// Enters the event with this expected number in each match, from match 1 to match 12.
+fn enter_round<B: LiveBoard, R: Wait>(rt: &R, board: &B, pass: &mut B::ReporterPass, expected: u16)
+    requires { B.is_reporter board.now pass.old }
+    ensures { B.is_reporter board.now pass.new }
+{
+    let kind = kind_at(expected);
+    for number in 1..13u8 {
+        if let Some(game) = MatchNo::new(number) {
+            let _reply = reply_to(rt, board, pass, (game, expected, kind));
+        }
+    }
+}
+
+/// Enters all events that the twelve matches can have, in turn, one of each. Returns how many were accepted, and the version that is read
+/// then.
 fn enter_all<B: LiveBoard, R: Wait>(rt: &R, board: &B, pass: &mut B::ReporterPass) -> (u16, u16)
     requires { B.is_reporter board.now pass.old }
     ensures { B.is_reporter board.now pass.new }
 {
-    for number in 1..13u8 {
-        if let Some(game) = MatchNo::new(number) {
-            enter_match(rt, board, pass, game);
-        }
+    for expected in 0..MOST {
+        enter_round(rt, board, pass, expected);
     }
     (B::accepted_of(pass), board.read_own(rt, pass).version)
 }
@@ -344,17 +351,15 @@ fn first_late<B: LiveBoard, R: Wait>(
     None
 }
 
-/// Whether a board has the first `version` of the events that `enter_all` enters, one match after the other, and no more.
+/// Whether a board has the first `version` of the events that `enter_all` enters, and no more: as many of each match as it is its turn.
 fn has_first(board: &Board, version: u16) -> bool {
-    let mut left = version;
-    for game in (1..13).filter_map(MatchNo::new) {
-        let number = left.min(MOST);
+    for (later, game) in (0..12u16).zip((1..13).filter_map(MatchNo::new)) {
+        let number = version.saturating_add(11).saturating_sub(later) / 12;
         if board.game(game).number != number {
             return false;
         }
-        left = left.saturating_sub(number);
     }
-    left == 0
+    true
 }
 
 /// Takes 1,000 readings while all events are entered, and says whether no version was below the one before, and each board has as many of
