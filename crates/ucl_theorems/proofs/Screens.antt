@@ -34,6 +34,8 @@ screens_show history point legal within profile roster group = rw ((versions (ta
 pub boards_have : BoardsHaveOneHistory TableInvariant
 boards_have s r = record {
   log = r.log;
+  is_log = r.is_log;
+  follows = r.follows;
   words = sym (ap (drop 1) r.words_are);
   each = λ seat v at. let f = r.fits seat v at in record { knows = f.knows; own = f.own.1 };
   only = r.seated;

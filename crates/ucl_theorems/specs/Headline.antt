@@ -16,8 +16,8 @@ use Rattle.ucl_steps.specs.declared.step.Cast.{Cast}
 use Rattle.ucl_steps.specs.declared.step.Step.{Step}
 use Rattle.ucl_steps.specs.Machine.{MachineState, initial_state, after_steps}
 use Rattle.ucl_steps.specs.RunHistory.{IsLinearizableRun}
-use Rattle.ucl_board.specs.Log.{Logged, Log, taken_by, history_of}
-use Rattle.ucl_steps.specs.ClientState.{FinishedCall, IsCall, client_at}
+use Rattle.ucl_board.specs.Log.{Logged, Log, IsLog, taken_by, history_of}
+use Rattle.ucl_steps.specs.ClientState.{FinishedCall, FollowsProtocol, IsCall, client_at}
 use Rattle.ucl_steps.specs.BoardObject.{HasLinearizableCalls}
 use Rattle.ucl_steps.specs.Seen.{HasSeen, accepts}
 use Rattle.ucl_live_board.specs.declared.view.View.{View}
@@ -48,12 +48,14 @@ pub record IsOfLog (log : Log) (seat : ℕ) (pass : View) : Type 0 where
   pub knows : IsPrefix pass.log log
   pub own : pass.own ≡ taken_by seat log
 
--- A word board, between two steps of any threads, has one history. There is one log of all steps, whose history has the words that are
--- there. Each pass knows a prefix of it, which has its own steps; no step is of a seat without a pass, and
+-- A word board, between two steps of any threads, has one history. There is one log of all steps, which follows the protocol, and whose
+-- history has the words that are there. Each pass knows a prefix of it, which has its own steps; no step is of a seat without a pass, and
 -- no two reporters have one number (a reader has 0). The calls of the log are linearizable: run one after the other on the board of one
 -- thread, in some order that is that of real time, they give the replies that they got.
 pub record IsOneHistory (state : State Entry View) : Type 0 where
   pub log : Log
+  pub is_log : IsLog log
+  pub follows : FollowsProtocol log
   pub words : board_of (history_of log) ≡ drop 1 state.words
   pub each : (seat : ℕ) (pass : View)
       → get_elem? state.views seat ≡ some pass → IsOfLog log seat pass
