@@ -294,10 +294,16 @@ def lines_with(number: int) -> list[str]:
     return [*found, f"3 input refused 25: row {number}"]
 
 
+# Each slot, word and row of a script of some length; versions and numbers up to the last; the last
+# row of the largest input; bytes at which reads end, and the last number that there is.
+MORE_NUMBERS = [
+    *(9_999, 10_000, 12_276, 16_384, 31_415, 49_140, 65_534, 65_535, 65_536, 299_590),
+    *((1 << 22) - 1, 1 << 22, (1 << 32) - 1, 1 << 32, (1 << 64) - 1),
+]
+
+
 def test_lines_and_statuses_of_faults(run: Callable[..., Run]) -> None:
-    """Of each version that a board can have, which is more numbers than slots, words and most rows
-    have; of the last row of the largest input; and of bytes at which reads end."""
-    numbers = [*range(1 << 16), 299_590, (1 << 22) - 1, 1 << 22, (1 << 32) - 1, (1 << 64) - 1]
+    numbers = [*range(5_000), *MORE_NUMBERS]
     ran = run("ucl_hostile", "faults", input="\n".join(map(str, numbers)))
     wanted = WITHOUT_A_NUMBER + [line for number in numbers for line in lines_with(number)]
     assert (ran.status, ran.errors) == (0, "")
