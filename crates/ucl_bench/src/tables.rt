@@ -146,7 +146,12 @@ pub fn measure_tables<R: Wait + Clock>(
 ) -> Result<Least> {
     let roster = roster(alloc)?;
     match (subject, workload) {
-        ("table", "standings") => measure(rt, boards, millis, |board| Ok(first_once(board, &roster))),
+        ("table", "standings") => measure(
+            rt,
+            boards,
+            millis,
+            |board| Ok(first_once(board, &roster)),
+        ),
         ("table", "screen") => measure(rt, boards, millis, |board| {
             Ok(screen_once(alloc, board, &roster)?)
         }),

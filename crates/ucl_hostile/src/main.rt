@@ -44,7 +44,13 @@ fn run<R: Print + Threads + Wait + Sync>(
         "refused" => refused::run(rt, alloc, word_at(words, 2), number_at(words, 3, 1)?, input),
         "ample" => ample::run(rt, alloc, input),
         "faults" => faults::run(rt, input),
-        "nights" => nights::run(rt, alloc, number_at(words, 2, 0)?, number_at(words, 3, 0)?, input),
+        "nights" => nights::run(
+            rt,
+            alloc,
+            number_at(words, 2, 0)?,
+            number_at(words, 3, 0)?,
+            input,
+        ),
         _ => anyhow::bail!("refused CALL [READINGS], ample, faults, or nights SEED READINGS"),
     }
 }

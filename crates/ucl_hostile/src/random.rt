@@ -1,8 +1,8 @@
 //! Numbers that look random.
 
+use ucl_word::Kind;
 use ucl_word::Kind::{Disallow, FullTime, Goal, KickOff, Red, Reopen, SecondYellow, Yellow};
 use ucl_word::Side::{Away, Home};
-use ucl_word::Kind;
 
 /// A source of numbers that look random, the same for the same seed (xorshift with 64 bits of state).
 #[derive(Clone, Copy)]

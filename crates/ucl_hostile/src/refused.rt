@@ -274,7 +274,9 @@ fn marked_night<B: LiveBoard, R: Threads + Wait + Sync>(
     requires { B.is_reader board.now pass }
 {
     mark(alloc, BEGINS)?;
-    let ended = night_run(rt, alloc, board, pass, night, b'A', readings, &OpenGate, Uefa);
+    let ended = night_run(
+        rt, alloc, board, pass, night, b'A', readings, &OpenGate, Uefa,
+    );
     mark(alloc, ENDS)?;
     Ok(ended.err())
 }
@@ -324,7 +326,9 @@ fn nights<B: LiveBoard + Drop, R: Print + Threads + Wait + Sync>(
     let fault = marked_night(rt, alloc, &board, pass, night, readings)?;
     let is_kept = is_left(rt, &board, watcher, night, begun, earlier, fault.is_none());
     let (board, pass) = second;
-    let other = night_run(rt, alloc, &board, pass, night, b'A', readings, &OpenGate, Uefa)?;
+    let other = night_run(
+        rt, alloc, &board, pass, night, b'A', readings, &OpenGate, Uefa,
+    )?;
     tell(rt, fault, is_kept, other.closing.as_str())
 }
 
