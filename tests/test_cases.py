@@ -8,7 +8,7 @@ import subprocess
 
 import model
 import pytest
-from conftest import EXAMPLES, TOP, Has, built, command, needs, tabled, text_of
+from conftest import EXAMPLES, TOP, Has, command, needs, tabled, text_of
 from model import CLUBS
 
 example = lambda name: text_of(EXAMPLES / name)
@@ -634,9 +634,10 @@ def test_input_that_cannot_be_read(run, line):
     os.close(folder)
 
 
-def test_input_without_end(run):
+@pytest.mark.parametrize("word", ["feed", "show", "night"])
+def test_input_without_end(run, word):
     with subprocess.Popen(["yes"], stdout=subprocess.PIPE, stderr=subprocess.DEVNULL) as source:
-        assert run("ucl_night", "feed", stdin=source.stdout) == (
+        assert run("ucl_night", word, stdin=source.stdout) == (
             3,
             "",
             "input refused 24: too long\n",
@@ -766,40 +767,3 @@ def test_thread_that_is_refused(program):
         **within(resource.RLIMIT_NPROC, 1),
     ) == (5, "", "no thread 27\n")
     os.close(night)
-
-
-# ---- what measures the boards
-
-WORKLOADS = {
-    "read": "calls",
-    "report": "calls",
-    **dict.fromkeys(["mix-3-1", "mix-16-12", "paced-2-0", "paced-0-12"], "reads"),
-}
-NO_WORKLOADS = [
-    "",
-    "write",
-    "Read",
-    "read-1",
-    "report-1-1",
-    "mix",
-    "mix-3",
-    "mix-17-1",
-    "mix-1-13",
-    "mix-a-1",
-    "mix--1",
-    "mix-1-",
-    "mix-1-1-1",
-]
-
-
-def test_workloads(place):
-    if built("ucl_bench", place) is None:
-        pytest.skip("not built: ucl_bench, which no user needs")
-    measured = lambda name: command(
-        [built("ucl_bench", place), "run", "word_board", name, "1"], cwd=place
-    )
-    for name, told in WORKLOADS.items():
-        assert measured(name) == (0, Has(f'{{"{told}":'), "")
-    for name in [*NO_WORKLOADS, "paced-256-0", "night-2-2", "3-1"]:
-        ran = measured(name)
-        assert ran.status and ran.output == "" and "no such workload" in ran.errors, name

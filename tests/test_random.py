@@ -8,8 +8,8 @@ import random
 import tempfile
 
 import pytest
-from conftest import Started, command, decoded, encoded
-from hypothesis import given, settings
+from conftest import Started, decoded, encoded
+from hypothesis import given
 from hypothesis import strategies as st
 from model import CLUBS, FINISHED, IN_PLAY, SCHEDULED, WORDS, Session, followed, fresh, night, sheet
 from test_followers import FIRST, SCREEN, in_edition, renamed
@@ -294,10 +294,3 @@ def test_pieces_on_a_pipe(start, name, texts):
     for size, text, answer in texts(random.sample(range(1, 20_001), 20_000)):
         assert started.answer(text, size, len(answer)) == answer, f"a piece of {size} bytes"
     assert started.end().output == ""
-
-
-def test_nights_on_both_boards(program):
-    """`ucl_hostile` compares each answer with the board of one thread."""
-    seed, count = random.randrange(2**32), settings.default.max_examples
-    ran = command([program("ucl_hostile"), "soak", str(seed), str(count)])
-    assert ran.status == 0 and ran.output.endswith(": 0 differ\n"), ran.output

@@ -5,7 +5,6 @@
 mod boards;
 mod clock;
 mod command;
-mod library;
 mod nights;
 mod one_thread;
 mod tables;

@@ -1,4 +1,7 @@
-//! The table and the screen of boards that a file lists.
+//! The table and the screen of boards that a file lists; and the same as calls of the library for other languages do it, which read words
+//! and clubs anew and judge them each time.
+
+ghost use Rattle.ucl_board.specs.Fixtures.{IsSlot};
 
 use crate::clock::{Least, nanos, nanos_since};
 use anyhow::{Context, Result};
@@ -6,7 +9,8 @@ use std::alloc::Global;
 use std::sync::Wait;
 use std::time::Clock;
 use ucl_board::Board;
-use ucl_order::{Club, Profile, Roster, standings};
+use ucl_json::screen_json;
+use ucl_order::{Club, LentClub, Profile, Roster, standings};
 use ucl_screen::screen;
 use ucl_word::OutOfMemory;
 
@@ -38,7 +42,7 @@ fn club(alloc: Global, name: &[u8], coefficient: u32) -> Result<Club> {
 }
 
 /// The roster of four clubs with which all boards are measured.
-pub fn roster(alloc: Global) -> Result<Roster> {
+fn roster(alloc: Global) -> Result<Roster> {
     let clubs = [
         club(alloc, b"Alpha", 60_000)?,
         club(alloc, b"Bravo", 95_000)?,
@@ -48,22 +52,66 @@ pub fn roster(alloc: Global) -> Result<Roster> {
     Roster::new(clubs).ok().context("no roster")
 }
 
+/// Prints the screen of each board.
+pub fn print_screens<R: Print>(rt: &R, alloc: Global, boards: &[Board]) -> Result<()> {
+    let roster = roster(alloc)?;
+    for board in boards {
+        let text = screen(alloc, board, &roster, b'A', Profile::Uefa)?;
+        print!(rt; "{text}")?;
+    }
+    Ok(())
+}
+
+/// The board made again from its words, which are checked, as in each call from another language.
+#[inline(never)]
+fn board_anew(board: &Board) -> Result<Board> {
+    Board::of_words(&board.words()).ok().context("no board")
+}
+
+/// The club in a slot, borrowed from the roster: the form in which calls from other languages pass clubs.
+fn lent(roster: &Roster, slot: u8) -> LentClub<'_>
+    requires { IsSlot slot }
+{
+    LentClub {
+        name: roster.name(slot),
+        coefficient: roster.coefficient(slot),
+    }
+}
+
+/// The roster made again from its clubs, which are checked, as in each call from another language.
+fn roster_anew(roster: &Roster) -> Result<Roster> {
+    let clubs = [
+        lent(roster, 1),
+        lent(roster, 2),
+        lent(roster, 3),
+        lent(roster, 4),
+    ];
+    Roster::of_lent(&clubs).ok().context("no roster")
+}
+
 /// Makes the table, and returns the slot of its first club. The call is never inlined, so that the whole table is made.
 #[inline(never)]
-pub fn first_once(board: &Board, roster: &Roster) -> u64 {
+fn first_once(board: &Board, roster: &Roster) -> u64 {
     let [first, ..] = standings(board, roster, Profile::Uefa);
     u64::from(first.slot)
 }
 
 /// Makes the screen of group A, and returns its length. The call is never inlined, so that the whole screen is made.
 #[inline(never)]
-pub fn screen_once(alloc: Global, board: &Board, roster: &Roster) -> Result<u64, OutOfMemory> {
+fn screen_once(alloc: Global, board: &Board, roster: &Roster) -> Result<u64, OutOfMemory> {
     let text = screen(alloc, board, roster, b'A', Profile::Uefa)?;
     Ok(text.len() as u64)
 }
 
+/// The length of the screen of group A as a line of JSON.
+#[inline(never)]
+fn json_once(alloc: Global, board: &Board, roster: &Roster) -> Result<u64> {
+    let line = screen_json(alloc, 9, board, roster, b'A', Profile::Uefa);
+    Ok(line.ok().context("no memory")?.len() as u64)
+}
+
 /// Measures `answer` on all boards, round after round, for about so many milliseconds.
-pub fn measure<R: Wait + Clock, F: Fn(&Board) -> Result<u64>>(
+fn measure<R: Wait + Clock, F: Fn(&Board) -> Result<u64>>(
     rt: &R,
     boards: &[Board],
     millis: u64,
@@ -87,30 +135,38 @@ pub fn measure<R: Wait + Clock, F: Fn(&Board) -> Result<u64>>(
     Ok(least)
 }
 
-/// Measures how fast tables (`name` is `standings`) or screens (`screen`) of these boards are made.
-pub fn measure_table<R: Wait + Clock>(
+/// Measures a workload of `table`, or of `library`, which makes board and roster anew, over these boards, for about so many milliseconds.
+pub fn measure_tables<R: Wait + Clock>(
     rt: &R,
     alloc: Global,
-    name: &str,
+    subject: &str,
+    workload: &str,
     millis: u64,
     boards: &[Board],
 ) -> Result<Least> {
     let roster = roster(alloc)?;
-    match name {
-        "standings" => measure(rt, boards, millis, |board| Ok(first_once(board, &roster))),
-        "screen" => measure(rt, boards, millis, |board| {
+    match (subject, workload) {
+        ("table", "standings") => measure(
+            rt,
+            boards,
+            millis,
+            |board| Ok(first_once(board, &roster)),
+        ),
+        ("table", "screen") => measure(rt, boards, millis, |board| {
             Ok(screen_once(alloc, board, &roster)?)
+        }),
+        ("library", "board_version") => measure(rt, boards, millis, |board| {
+            Ok(u64::from(board_anew(board)?.version()))
+        }),
+        ("library", "standings") => measure(rt, boards, millis, |board| {
+            Ok(first_once(&board_anew(board)?, &roster_anew(&roster)?))
+        }),
+        ("library", "screen") => measure(rt, boards, millis, |board| {
+            Ok(screen_once(alloc, &board_anew(board)?, &roster_anew(&roster)?)?)
+        }),
+        ("library", "screen_json") => measure(rt, boards, millis, |board| {
+            json_once(alloc, &board_anew(board)?, &roster_anew(&roster)?)
         }),
         _ => anyhow::bail!("no such workload"),
     }
-}
-
-/// Prints the screen of each board.
-pub fn print_screens<R: Print>(rt: &R, alloc: Global, boards: &[Board]) -> Result<()> {
-    let roster = roster(alloc)?;
-    for board in boards {
-        let text = screen(alloc, board, &roster, b'A', Profile::Uefa)?;
-        print!(rt; "{text}")?;
-    }
-    Ok(())
 }

@@ -2,7 +2,7 @@
 
 ghost use Rattle.ucl_screen.specs.Screen.{IsGroup};
 
-use crate::soak::Random;
+use crate::random::Random;
 use std::alloc::{AllocError, Global};
 use std::iter::repeat_n;
 use std::sync::{Condvar, Mutex, Wait};
@@ -111,17 +111,22 @@ impl<'n, R: Wait + Sync> Watch<'n, R> {
     }
 
     /// Lists the turns in which the gate lets calls of a night on this board through, and returns the version after them. Rows come in
-    /// script order, and readings evenly among them: those of worker 3 before a row, and those of worker 4 after it.
-    fn hold(&mut self, mut board: Board) -> Result<u16, AllocError> {
+    /// script order. Readings come evenly among them, those of worker 3 before a row, and those of worker 4 after it; or all come after the
+    /// rows, if they are late.
+    fn hold(&mut self, mut board: Board, is_late: bool) -> Result<u16, AllocError> {
         for (row, event) in self.night.events.iter().enumerate() {
             let many = self
                 .due(row.saturating_add(1))
                 .saturating_sub(self.due(row));
+            let many = if is_late { 0 } else { many };
             self.turns.extend(repeat_n((3, board.version()), many))?;
             self.turns.push((event.reporter.get(), 0))?;
             let _reply = board.report(event.reporter, &event.call);
             self.turns.extend(repeat_n((4, board.version()), many))?;
         }
+        let many = if is_late { self.most[2] as usize } else { 0 };
+        self.turns.extend(repeat_n((3, board.version()), many))?;
+        self.turns.extend(repeat_n((4, board.version()), many))?;
         Ok(board.version())
     }
 
@@ -201,13 +206,14 @@ impl<R: Wait + Sync> Gate for Watch<'_, R> {
 }
 
 /// A night: how many reporters have a number before it, and whether one of them has entered an event; the row that is of none on duty, if one
-/// is; and whether its gate has turns.
+/// is; whether its gate has turns, and whether readings are late in these.
 #[derive(Clone, Copy, Debug)]
 struct Case {
     others: u8,
     strangers: bool,
     row: Option<usize>,
     is_held: bool,
+    is_late: bool,
 }
 
 /// Enlists a reporter by this pass, and has it enter this event, if there is one, on both boards; nothing if no number is left.
@@ -347,7 +353,7 @@ fn is_right<B: LiveBoard, R: Threads + Wait + Sync>(
     let alone = with_others(rt, board, &mut pass, &case);
     let before = alone.version();
     let held = if case.is_held {
-        Some(watch.hold(alone)?)
+        Some(watch.hold(alone, case.is_late)?)
     } else {
         None
     };
@@ -428,23 +434,26 @@ fn off_duty(rows: &mut [NightEvent], random: &mut Random) -> Option<usize> {
     at.checked_add(5)
 }
 
-/// Holds a night of the script on each kind of board, by one order each, in turns. Fails if one ends otherwise than it has to.
+/// Holds nights of the script in turns, two on each kind of board: with one reading of each reader, after all rows, and with so many among
+/// the rows. Fails if one ends otherwise than it has to.
 fn script_nights<R: Threads + Wait + Sync>(
     rt: &R,
     alloc: Global,
     night: &Night,
     readings: u32,
 ) -> anyhow::Result<()> {
-    let case = Case {
-        others: 0,
-        strangers: false,
-        row: None,
-        is_held: true,
-    };
-    for (in_cell, group) in [(false, 0), (true, 1)] {
-        let mut watch = Watch::new(rt, alloc, night, group, readings);
+    for (in_cell, is_late) in [(false, false), (false, true), (true, false), (true, true)] {
+        let case = Case {
+            others: 0,
+            strangers: false,
+            row: None,
+            is_held: true,
+            is_late,
+        };
+        let readings = if is_late { 1 } else { readings };
+        let mut watch = Watch::new(rt, alloc, night, u8::from(in_cell), readings);
         if !is_right_on(rt, alloc, in_cell, &mut watch, case)? {
-            anyhow::bail!("the night of the script, in a cell {in_cell}");
+            anyhow::bail!("a night of the script, in a cell {in_cell}, {case:?}");
         }
     }
     Ok(())
@@ -473,6 +482,7 @@ fn case_of(random: &mut Random, rows: &mut [NightEvent], at: u32) -> Case {
             off_duty(rows, random)
         },
         is_held: at < 256 || random.below(64) == 0,
+        is_late: random.below(2) == 0,
     }
 }
 
@@ -494,17 +504,17 @@ fn random_night<R: Threads + Wait + Sync>(
     Ok(())
 }
 
-/// Holds a night of the script on each kind of board; then nights of random rows, of each group and each number of readings up to `most`:
+/// Holds nights of the script on each kind of board; then nights of random rows, of each group and each number of readings up to `most`:
 /// with no cause to fail, with an event of a third reporter, with a row of a reporter other than 1 and 2, and with another set of causes,
 /// such as that no two numbers of reporters are left. Fails if one ends otherwise than it has to.
 pub fn run<R: Print + Threads + Wait + Sync>(
     rt: &R,
     alloc: Global,
-    seed: u64,
+    seed: u32,
     most: u32,
     input: &[u8],
 ) -> anyhow::Result<()> {
-    let mut random = Random::of(seed);
+    let mut random = Random::of(u64::from(seed));
     let mut night = night_of_bytes(alloc, input)?;
     end_with_stale(&mut night.events)?;
     let readings = u32::try_from(night.events.len())? / 16 + u32::from(random.below(255));

@@ -262,18 +262,21 @@ fn is_of_rows(read: &Board, night: &Night, mut alone: Board, earlier: u8) -> boo
     alone == *read
 }
 
-/// Holds a night of the script, where memory may be refused, between marks, and returns its fault, if any.
+/// Holds a night of the script with so many readings, where memory may be refused, between marks, and returns its fault, if any.
 fn marked_night<B: LiveBoard, R: Threads + Wait + Sync>(
     rt: &R,
     alloc: Global,
     board: &B,
     pass: B::ReaderPass,
     night: &Night,
+    readings: u32,
 ) -> Result<Option<RunFault>, AllocError>
     requires { B.is_reader board.now pass }
 {
     mark(alloc, BEGINS)?;
-    let ended = night_run(rt, alloc, board, pass, night, b'A', 1, &OpenGate, Uefa);
+    let ended = night_run(
+        rt, alloc, board, pass, night, b'A', readings, &OpenGate, Uefa,
+    );
     mark(alloc, ENDS)?;
     Ok(ended.err())
 }
@@ -299,8 +302,8 @@ fn is_left<B: LiveBoard, R: Wait>(
     is_whole && is_alone && is_of_rows(&kept.board, night, begun, earlier)
 }
 
-/// Holds a night of the script on the first board, where memory may be refused, and one on the second, and prints both outcomes. A third
-/// reporter first enters `entered`, if it is an event. A pass split off before the first night has to read only that event and rows of the
+/// Holds a night of the script on the first board, where memory may be refused, and one on the second, each with so many readings, and prints
+/// both outcomes. A third reporter first enters `entered`, if it is an event. A pass split off before the first night has to read only that event and rows of the
 /// script, all accepted ones if the night ended well; its number has to show that two reporters at most were enlisted.
 fn nights<B: LiveBoard + Drop, R: Print + Threads + Wait + Sync>(
     rt: &R,
@@ -308,6 +311,7 @@ fn nights<B: LiveBoard + Drop, R: Print + Threads + Wait + Sync>(
     first: (B, B::ReaderPass),
     second: (B, B::ReaderPass),
     night: &Night,
+    readings: u32,
     entered: Option<EventCall>,
 ) -> anyhow::Result<()>
     requires { B.is_reader first.0 first.1 × B.is_reader second.0 second.1 }
@@ -319,10 +323,12 @@ fn nights<B: LiveBoard + Drop, R: Print + Threads + Wait + Sync>(
         enlist_other(rt, &board, part, entered, &mut begun).context("no number is left")?;
     }
     let watcher = board.split(rt, &mut pass);
-    let fault = marked_night(rt, alloc, &board, pass, night)?;
+    let fault = marked_night(rt, alloc, &board, pass, night, readings)?;
     let is_kept = is_left(rt, &board, watcher, night, begun, earlier, fault.is_none());
     let (board, pass) = second;
-    let other = night_run(rt, alloc, &board, pass, night, b'A', 1, &OpenGate, Uefa)?;
+    let other = night_run(
+        rt, alloc, &board, pass, night, b'A', readings, &OpenGate, Uefa,
+    )?;
     tell(rt, fault, is_kept, other.closing.as_str())
 }
 
@@ -341,7 +347,7 @@ fn full_night<B: LiveBoard, R: Print + Threads + Wait + Sync>(
         next_number(rt, board, part).context("no number is left")?;
     }
     let watcher = board.split(rt, &mut pass);
-    let fault = marked_night(rt, alloc, board, pass, night)?;
+    let fault = marked_night(rt, alloc, board, pass, night, 1)?;
     let is_full = next_number(rt, board, watcher).is_none();
     tell(rt, fault, is_full, "")
 }
@@ -351,11 +357,12 @@ fn word_nights<R: Print + Threads + Wait + Sync>(
     rt: &R,
     alloc: Global,
     input: &[u8],
+    readings: u32,
     entered: Option<EventCall>,
 ) -> anyhow::Result<()> {
     let night = night_of_bytes(alloc, input)?;
     let (first, second) = (WordBoard::open(rt, alloc)?, WordBoard::open(rt, alloc)?);
-    nights(rt, alloc, first, second, &night, entered)
+    nights(rt, alloc, first, second, &night, readings, entered)
 }
 
 /// Holds two nights of the script in the input on cell boards of their own, as `nights` does, without a third reporter.
@@ -363,10 +370,11 @@ fn cell_nights<R: Print + Threads + Wait + Sync>(
     rt: &R,
     alloc: Global,
     input: &[u8],
+    readings: u32,
 ) -> anyhow::Result<()> {
     let night = night_of_bytes(alloc, input)?;
     let (first, second) = (CellBoard::open(rt, alloc)?, CellBoard::open(rt, alloc)?);
-    nights(rt, alloc, first, second, &night, None)
+    nights(rt, alloc, first, second, &night, readings, None)
 }
 
 /// Holds a night of the script in the input on a word board, as `full_night` does.
@@ -379,11 +387,12 @@ fn full_word_night<R: Print + Threads + Wait + Sync>(
     full_night(rt, alloc, &board, pass, &night_of_bytes(alloc, input)?)
 }
 
-/// Makes the library call that `call` names, with the input, in most cases twice, and prints the outcomes.
+/// Makes the library call that `call` names, with the input, in most cases twice, and prints the outcomes. A reader of a night reads so often.
 pub fn run<R: Print + Threads + Wait + Sync>(
     rt: &R,
     alloc: Global,
     call: &str,
+    readings: u32,
     input: &[u8],
 ) -> anyhow::Result<()> {
     match call {
@@ -392,10 +401,10 @@ pub fn run<R: Print + Threads + Wait + Sync>(
         "read_words" => sheets(rt, alloc, input),
         "feed_run" => runs(rt, alloc, Engine::Feed, input),
         "show_run" => runs(rt, alloc, Engine::Show, input),
-        "night_run" => word_nights(rt, alloc, input, None),
-        "night_run_beside_a_stranger" => word_nights(rt, alloc, input, kick_off(12)),
+        "night_run" => word_nights(rt, alloc, input, readings, None),
+        "night_run_beside_a_stranger" => word_nights(rt, alloc, input, readings, kick_off(12)),
         "night_run_on_a_full_board" => full_word_night(rt, alloc, input),
-        "night_run_in_a_cell" => cell_nights(rt, alloc, input),
+        "night_run_in_a_cell" => cell_nights(rt, alloc, input, readings),
         "run_steps" => steps(rt, alloc, input),
         "line_of" => lines(rt, alloc, input),
         "CellBoard::open" => cells(rt, alloc),

@@ -7,6 +7,7 @@ use std::sync::Wait;
 use std::test::Fail;
 use std::thread;
 use std::thread::Threads;
+use ucl_board::Board;
 use ucl_pass::{CellBoard, LiveBoard, Strangers, TooManyReporters, settle};
 use ucl_word::Kind::{Disallow, FullTime, Goal, KickOff, Reopen, SecondYellow, Yellow};
 use ucl_word::Side::{Away, Home};
@@ -270,31 +271,38 @@ fn all_numbers(rt: HostRuntime) -> Result<(), Fail> {
 /// How many events a match can have, the last of which is full time.
 const MOST: u16 = 4095;
 
-/// Enters all events that a match can have: a kick-off, a home goal and its disallowing in turn, and full time.
-fn enter_match<B: LiveBoard, R: Wait>(rt: &R, board: &B, pass: &mut B::ReporterPass, game: MatchNo)
-    requires { B.is_reporter board.now pass.old }
-    ensures { B.is_reporter board.now pass.new }
-{
-    for expected in 0..MOST {
-        let kind = match expected {
-            0 => KickOff,
-            4094 => FullTime,
-            _ if expected % 2 == 1 => Goal(Home),
-            _ => Disallow(Home),
-        };
-        let _reply = reply_to(rt, board, pass, (game, expected, kind));
+/// The kind of the event with this expected number, of as many as a match can have: a kick-off, a home goal and its disallowing in turn, and
+/// full time.
+fn kind_at(expected: u16) -> Kind {
+    match expected {
+        0 => KickOff,
+        4094 => FullTime,
+        _ if expected % 2 == 1 => Goal(Home),
+        _ => Disallow(Home),
     }
 }
 
-/// Enters all events that each of the twelve matches can have. Returns how many were accepted, and the version that is read then.
+/// Enters the event with this expected number in each match, from match 1 to match 12.
+fn enter_round<B: LiveBoard, R: Wait>(rt: &R, board: &B, pass: &mut B::ReporterPass, expected: u16)
+    requires { B.is_reporter board.now pass.old }
+    ensures { B.is_reporter board.now pass.new }
+{
+    let kind = kind_at(expected);
+    for number in 1..13u8 {
+        if let Some(game) = MatchNo::new(number) {
+            let _reply = reply_to(rt, board, pass, (game, expected, kind));
+        }
+    }
+}
+
+/// Enters all events that the twelve matches can have, in turn, one of each. Returns how many were accepted, and the version that is read
+/// then.
 fn enter_all<B: LiveBoard, R: Wait>(rt: &R, board: &B, pass: &mut B::ReporterPass) -> (u16, u16)
     requires { B.is_reporter board.now pass.old }
     ensures { B.is_reporter board.now pass.new }
 {
-    for number in 1..13u8 {
-        if let Some(game) = MatchNo::new(number) {
-            enter_match(rt, board, pass, game);
-        }
+    for expected in 0..MOST {
+        enter_round(rt, board, pass, expected);
     }
     (B::accepted_of(pass), board.read_own(rt, pass).version)
 }
@@ -343,23 +351,35 @@ fn first_late<B: LiveBoard, R: Wait>(
     None
 }
 
-/// Takes 1,000 readings, and says whether no version was below the one before.
+/// Whether a board has the first `version` of the events that `enter_all` enters, and no more: as many of each match as it is its turn.
+fn has_first(board: &Board, version: u16) -> bool {
+    for (later, game) in (0..12u16).zip((1..13).filter_map(MatchNo::new)) {
+        let number = version.saturating_add(11).saturating_sub(later) / 12;
+        if board.game(game).number != number {
+            return false;
+        }
+    }
+    true
+}
+
+/// Takes 1,000 readings while all events are entered, and says whether no version was below the one before, and each board has as many of
+/// the events, from the first on, as its version tells.
 fn versions_rise<B: LiveBoard, R: Wait>(rt: &R, board: &B, mut pass: B::ReaderPass) -> bool
     requires { B.is_reader board.now pass }
 {
     let mut least = 0;
     for _ in 0..1000u16 {
-        let version = version_read(rt, board, &mut pass);
-        if version < least {
+        let reading = board.read(rt, &mut pass);
+        if reading.version < least || !has_first(&reading.board, reading.version) {
             return false;
         }
-        least = version;
+        least = reading.version;
     }
     true
 }
 
 /// Has a reporter enter all events that a board can take while two readers read, each in a thread of its own. Returns the accepted events
-/// and the version; the first later event that is not refused as it has to be; and whether the versions of each reader never fell.
+/// and the version; the first later event that is not refused as it has to be; and whether what each reader read was right.
 fn all_events_on<B: LiveBoard, R: Threads + Wait + Sync>(
     rt: &R,
     board: &B,
@@ -395,7 +415,7 @@ fn all_events_on<B: LiveBoard, R: Threads + Wait + Sync>(
     Some((entered, late, [one, two]))
 }
 
-/// Both kinds of boards take 49,140 events, and refuse each later one, while the versions that two readers read never fall.
+/// Both kinds of boards take 49,140 events, and refuse each later one. What two readers read meanwhile never falls, and is never of two moments.
 #[test]
 fn all_events_with_two_readers(rt: HostRuntime) -> Result<(), Fail> {
     let (board, reader) = CellBoard::open(&rt, rt.alloc())?;

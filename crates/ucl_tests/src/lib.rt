@@ -1,17 +1,11 @@
-//! What no clause says of rules, order, screen, inputs, machine and boards: worked rows, and each call once with ample memory.
+//! What no clause says of boards, machine and keys, and no program reaches: worked rows, and each call once with ample memory.
 #![tactic(auto)]
 
 #[cfg(test)]
 mod boards;
 #[cfg(test)]
-mod input;
-#[cfg(test)]
-mod order;
+mod keys;
 #[cfg(test)]
 mod own_board;
 #[cfg(test)]
-mod screen;
-#[cfg(test)]
 mod steps;
-#[cfg(test)]
-mod word;

@@ -1,6 +1,6 @@
 //! Worked lists of steps.
 
-use crate::order::sample_roster;
+use crate::keys::sample_roster;
 use std::alloc::{AllocError, Global};
 use std::test::Fail;
 use ucl_board::{Board, Reading};
