@@ -151,7 +151,6 @@ TRAITS = {
     "ucl_screen": {
         **dict.fromkeys(["FirstRow", "Four", "RowFields"], "Clone Copy"),
         "FaultLine": "Clone Copy | fmt::Display",
-        "NightEvent": PLAIN,
         "Rows": "Drop",
         **dict.fromkeys(["Night", "Sheet"], "Debug Drop"),
         "InputFault": f"{PLAIN} | From<AllocError> From<AllocFailed<T>> error::Error fmt::Display",
@@ -166,7 +165,7 @@ TRAITS = {
     "ucl_board": {
         "BadWordAt": "Clone Copy Debug Eq Error PartialEq",
         "Board": f"{PLAIN} | Model",
-        "Entry": PLAIN,
+        **dict.fromkeys(["Entry", "NightEvent"], PLAIN),
         "Reading": PLAIN,
     },
     "ucl_live_board": {
