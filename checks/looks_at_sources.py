@@ -221,7 +221,7 @@ DEVICES = [
     "let given = match self.writer.write(text) { Ok(0) | Err(_) => None, Ok(count) => Some(count), }; self.has_failed = given.is_none(); given }",
 ]
 # Crates of rules, and how values are put in an order: a sort, an exchange of two, the lower and the higher of two, an item that moves within its list.
-RULES = ["ucl_word", "ucl_board", "ucl_order", "ucl_screen", "ucl_mends", "ucl_steps"]
+RULES = ["ucl_word", "ucl_board", "ucl_order", "ucl_screen", "ucl_mends", "ucl_log", "ucl_steps"]
 SORTS = re.compile(
     r"[^;{}]*(?:\w*sort\w*\(|(?<!fn )\b(?:swap|replace|rotate_\w+|min\w*|max\w*|reverse)\((?!\*caller\))"
     r"|\blet \((\w+), (\w+)\) = \w+\((?:&\w* ?)*(?:\1, (?:&\w* ?)*\2|\2, (?:&\w* ?)*\1)\)|\b(\w+)\[[^]]+\] = \3\[|\(\w+\[[^]]+\], \w+\[[^]]+\]\) =)[^;]*;"
