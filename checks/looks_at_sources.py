@@ -151,7 +151,6 @@ TRAITS = {
     "ucl_screen": {
         **dict.fromkeys(["FirstRow", "Four", "RowFields"], "Clone Copy"),
         "FaultLine": "Clone Copy | fmt::Display",
-        "NightEvent": PLAIN,
         "Rows": "Drop",
         **dict.fromkeys(["Night", "Sheet"], "Debug Drop"),
         "InputFault": f"{PLAIN} | From<AllocError> From<AllocFailed<T>> error::Error fmt::Display",
@@ -166,7 +165,7 @@ TRAITS = {
     "ucl_board": {
         "BadWordAt": "Clone Copy Debug Eq Error PartialEq",
         "Board": f"{PLAIN} | Model",
-        "Entry": PLAIN,
+        **dict.fromkeys(["Entry", "NightEvent"], PLAIN),
         "Reading": PLAIN,
     },
     "ucl_live_board": {
@@ -222,7 +221,7 @@ DEVICES = [
     "let given = match self.writer.write(text) { Ok(0) | Err(_) => None, Ok(count) => Some(count), }; self.has_failed = given.is_none(); given }",
 ]
 # Crates of rules, and how values are put in an order: a sort, an exchange of two, the lower and the higher of two, an item that moves within its list.
-RULES = ["ucl_word", "ucl_board", "ucl_order", "ucl_screen", "ucl_mends", "ucl_steps"]
+RULES = ["ucl_word", "ucl_board", "ucl_order", "ucl_screen", "ucl_mends", "ucl_log", "ucl_steps"]
 SORTS = re.compile(
     r"[^;{}]*(?:\w*sort\w*\(|(?<!fn )\b(?:swap|replace|rotate_\w+|min\w*|max\w*|reverse)\((?!\*caller\))"
     r"|\blet \((\w+), (\w+)\) = \w+\((?:&\w* ?)*(?:\1, (?:&\w* ?)*\2|\2, (?:&\w* ?)*\1)\)|\b(\w+)\[[^]]+\] = \3\[|\(\w+\[[^]]+\], \w+\[[^]]+\]\) =)[^;]*;"

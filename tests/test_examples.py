@@ -175,7 +175,7 @@ def test_examples_of_doc_comments(tmp_path):
     crates = {
         line.split()[0].strip(":"): line for line in text_of(TOP / "crates.txt").splitlines(True)
     }
-    below = ["ucl_word", "ucl_board", "ucl_steps", *BOARD_CRATES]
+    below = ["ucl_word", "ucl_board", "ucl_log", "ucl_steps", *BOARD_CRATES]
     for crate in below:
         shutil.copytree(
             TOP / "crates" / crate,

@@ -16,12 +16,14 @@
 mod board;
 mod entry;
 mod fixtures;
+mod night_event;
 mod reading;
 mod theorems;
 
 pub use board::{BadWordAt, Board};
 pub use entry::Entry;
 pub use fixtures::{away_of, home_of};
+pub use night_event::NightEvent;
 pub use reading::Reading;
 pub use theorems::{
     accepted_events_go_stale, added_entry_is_known, attempts_are_counted, beginnings_are_legal,

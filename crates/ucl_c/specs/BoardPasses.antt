@@ -7,7 +7,7 @@ use Rattle.ucl_word.specs.declared.refusal.Refusal.{Refusal}
 use Rattle.ucl_word.specs.Names.{found_of, kind_with, refusal_code}
 use Rattle.ucl_board.specs.declared.reading.Reading.{Reading}
 use Rattle.ucl_words.specs.WordRecords.{WordOpened, WordReported, WordRead, WordSplit, WordEnlisted, WordFull}
-use Rattle.ucl_board.specs.Log.{number_of}
+use Rattle.ucl_log.specs.Log.{number_of}
 use Rattle.ucl_words.specs.WordViews.{WordPass}
 use Rattle.ucl_c.specs.declared.board_pass.AnyPass.{AnyPass}
 use Rattle.ucl_c.specs.declared.board_pass.AnyPass.TheVariants.{Nobody, Reader, Reporter}

@@ -4,9 +4,9 @@ use Rattle.ucl_word.specs.declared.event.Accepted.{Accepted}
 use Rattle.ucl_word.specs.declared.refusal.Refusal.{Refusal}
 use Rattle.ucl_word.specs.Names.{found_of, refusal_code}
 use Rattle.ucl_board.specs.declared.entry.Entry.{Entry}
+use Rattle.ucl_board.specs.declared.night_event.NightEvent.{NightEvent}
 use Rattle.ucl_board.specs.History.{accepted_of, board_of, sequential_reply}
 use Rattle.ucl_order.specs.Roster.{NamedClub, club_in}
-use Rattle.ucl_screen.specs.declared.night.NightEvent.{NightEvent}
 use Rattle.ucl_screen.specs.Script.{Script, first_event_row, night_of}
 use Rattle.ucl_screen.specs.Events.{attempt_of, each_in_turn}
 use Rattle.ucl_c.specs.declared.script.ReplyOfC.{ReplyOfC}

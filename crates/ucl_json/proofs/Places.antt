@@ -9,7 +9,7 @@ use Rattle.ucl_json.proofs.Common.{ℤ, ◌++◌, ◌+◌, ◌-ℤ◌, ◌-◌, 
 use Rattle.std.specs.Prelude.{None, Option, Some}
 use Rattle.ucl_json.specs.Mended.{mended_value}
 use Rattle.ucl_word.specs.declared.event.Accepted.{Accepted}
-use Rattle.ucl_screen.specs.declared.night.NightEvent.{NightEvent}
+use Rattle.ucl_board.specs.declared.night_event.NightEvent.{NightEvent}
 use Rattle.ucl_screen.proofs.EventsInTurn.{match-numbered}
 
 -- the items of an array with one more at their end

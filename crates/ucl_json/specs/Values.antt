@@ -6,6 +6,7 @@ use Rattle.ucl_word.specs.declared.event.Accepted.{Accepted}
 use Rattle.ucl_word.specs.declared.record.MatchRecord.{MatchRecord}
 use Rattle.ucl_word.specs.declared.refusal.Refusal.{Refusal}
 use Rattle.ucl_word.specs.Names.{found_of, kind_name, refusal_code, refusal_name}
+use Rattle.ucl_board.specs.declared.night_event.NightEvent.{NightEvent}
 use Rattle.ucl_board.specs.Fixtures.{fixture_of, match_numbers}
 use Rattle.ucl_board.specs.Words.{game_at, version_of}
 use Rattle.ucl_order.specs.declared.mark.Mark.{Mark}
@@ -15,7 +16,6 @@ use Rattle.ucl_order.specs.declared.table.Row.{Row}
 use Rattle.ucl_order.specs.Names.{profile_name}
 use Rattle.ucl_order.specs.Roster.{NamedClub, coefficient_of, name_of}
 use Rattle.ucl_order.specs.Rows.{rows_of}
-use Rattle.ucl_screen.specs.declared.night.NightEvent.{NightEvent}
 use Rattle.ucl_screen.specs.Matches.{state_name}
 use Rattle.ucl_screen.specs.Screen.{in_play}
 use Rattle.ucl_screen.specs.Numbers.{hex_digits}

@@ -3,8 +3,8 @@ use Rattle.ucl_live_board.proofs.Common.{◌≡◌, ◌≢◌, ℕ, zero, suc, �
 use Rattle.ucl_live_board.proofs.Common.{All, IsSome, None, dite, some, get_elem?, ℕ_discrete, Entry, Taken, Logged, logged_by, Log, taken_by, entry_list}
 use Rattle.ucl_live_board.proofs.Common.{added_by, number_of, history_of, enlisted_by, IsLegalRule, View, Share, whole, Overlap, BoardInvariant, DidAllAlone}
 use Rattle.ucl_live_board.proofs.Common.{WholeIsAlone}
-use Rattle.ucl_board.specs.Log.{LogFacts}
-use Rattle.ucl_board.proofs.Logs.{taken_none, below_more, log_facts}
+use Rattle.ucl_log.specs.Log.{LogFacts}
+use Rattle.ucl_log.proofs.Logs.{taken_none, below_more, log_facts}
 use Rattle.ucl_live_board.proofs.Halves.{in_whole}
 
 -- a step of a seat in front of a log is in front of the steps of this seat

@@ -5,7 +5,7 @@ use Rattle.ucl_live_board.proofs.Common.{pass_view_by, count_of, Takes, left_pas
 use Rattle.ucl_live_board.proofs.Common.{told_pass}
 use Rattle.ucl_live_board.proofs.Lists.{none_by_zero}
 use Rattle.ucl_live_board.proofs.Halves.{half_acts, half_not_whole}
-use Rattle.ucl_board.proofs.Logs.{history_on, enlisted_on}
+use Rattle.ucl_log.proofs.Logs.{history_on, enlisted_on}
 use Rattle.ucl_live_board.specs.LiveRecords.{LiveMet}
 use Rattle.ucl_live_board.specs.Passes.{Enlistment}
 use Rattle.ucl_live_board.proofs.StepFacts.{Goes, Sees, Adds, GivesNumber, sound}

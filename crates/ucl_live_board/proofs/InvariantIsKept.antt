@@ -7,8 +7,8 @@ use Rattle.ucl_live_board.proofs.Common.{MayBeTaken, View, Share, Overlap, new_p
 use Rattle.ucl_live_board.proofs.Common.{BoardInvariant, BoardStep, stepped_to}
 use Rattle.atomic_table.proofs.Lists as lists
 use Rattle.ucl_word.proofs.Sequences.{may_next}
-use Rattle.ucl_board.proofs.Logs.{history_more, history_same, enlisted_more, taken_append, taken_own, taken_other, taken_none, below_more, nil_front, between}
-use Rattle.ucl_board.proofs.Logs.{shorter}
+use Rattle.ucl_log.proofs.Logs.{history_more, history_same, enlisted_more, taken_append, taken_own, taken_other, taken_none, below_more, nil_front, between}
+use Rattle.ucl_log.proofs.Logs.{shorter}
 use Rattle.ucl_live_board.specs.PossibleViews.{OccursSomewhere, BothOccur}
 use Rattle.ucl_live_board.proofs.Halves.{overlap_swap, half_overlaps, halves_apart, half_none, acts_some}
 

@@ -8,7 +8,7 @@ use Rattle.std.proofs.Common.{◌≤◌}
 use Rattle.std.proofs.lemmas.List.{append_cancel_left}
 use Rattle.std.proofs.lemmas.List.Elements.{All-weaker}
 use Rattle.ucl_live_board.specs.BoardInvariant.{PassesSeePrefixes, WordsCountReporters}
-use Rattle.ucl_board.proofs.Logs.{enlisted_on, history_on, knows_all, legal_history, log_begins, log_facts, taken_append}
+use Rattle.ucl_log.proofs.Logs.{enlisted_on, history_on, knows_all, legal_history, log_begins, log_facts, taken_append}
 use Rattle.ucl_live_board.proofs.Halves.{in_whole, on_a_side}
 use Rattle.ucl_live_board.proofs.Alone.{taken_else, some_here, only_own, view_at, none_beyond, number_some, seat_there}
 use Rattle.ucl_live_board.proofs.InvariantIsKept.{place_below}

@@ -7,9 +7,9 @@ use Rattle.ucl_live_board.proofs.Common.{◌==◌}
 use Rattle.std.proofs.lemmas.List.Filters.{length-filter_both}
 use Rattle.ucl_word.specs.Counts.{EachMay}
 use Rattle.ucl_word.proofs.Sequences.{may_next, may_last}
-use Rattle.ucl_board.specs.Log.{MayBeTaken, MayEnlist, IsLegalStep, HasLegalSteps, LogFacts}
-use Rattle.ucl_board.proofs.Logs.{history_more, history_on, enlisted_more, enlisted_on, taken_own, added_more, number_more}
-use Rattle.ucl_board.proofs.Logs.{log_facts, legal_history}
+use Rattle.ucl_log.specs.Log.{MayBeTaken, MayEnlist, IsLegalStep, HasLegalSteps, LogFacts}
+use Rattle.ucl_log.proofs.Logs.{history_more, history_on, enlisted_more, enlisted_on, taken_own, added_more, number_more}
+use Rattle.ucl_log.proofs.Logs.{log_facts, legal_history}
 use Rattle.ucl_live_board.proofs.Lists.{none_by_zero}
 use Rattle.ucl_live_board.proofs.Alone.{whole_is_alone}
 
@@ -80,7 +80,7 @@ there_on : (a b : Log) (t : Target) → history_of a ≡ history_of b → enlist
 there_on a b t history count none there = search arith
 
 -- the pass of a seat took one step on this target, from the view v to the view w
-module _ (words_after : List Entry → ℕ → List ℕ) (May : Log → Rattle.ucl_board.specs.Log.Logged → Type 0) (seat : ℕ) (target : Target) (v w : View)
+module _ (words_after : List Entry → ℕ → List ℕ) (May : Log → Rattle.ucl_log.specs.Log.Logged → Type 0) (seat : ℕ) (target : Target) (v w : View)
     (s : BoardStep words_after May seat target v w) where
   pub log_is : w.log ≡ s.before ++ logged_by seat s.step ∷ []
   log_is = ap (λ (z : View). z.log) s.is
@@ -204,7 +204,7 @@ module _ (words_after : List Entry → ℕ → List ℕ) (May : Log → Rattle.u
         (may_last IsLegalStep s.before (logged_by seat s.step) (subst HasLegalSteps log_is legal_steps)).enlists
 
 -- the enlistment of a pass, where `found` were enlisted, gives it the next number
-pub enlisted : (words_after : List Entry → ℕ → List ℕ) (May : Log → Rattle.ucl_board.specs.Log.Logged → Type 0) (seat found : ℕ) (v w : View)
+pub enlisted : (words_after : List Entry → ℕ → List ℕ) (May : Log → Rattle.ucl_log.specs.Log.Logged → Type 0) (seat found : ℕ) (v w : View)
     (s : BoardStep words_after May seat (Enlists found) v w) → IsLegalRule May → GivesNumber found v w
 enlisted words_after May seat found v w s legal =
     let may = enlists_legally words_after May seat (Enlists found) v w s legal in

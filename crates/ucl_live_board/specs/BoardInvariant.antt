@@ -7,7 +7,7 @@ use lib.ListN.{get_elem?}
 use Rattle.ucl_word.specs.Counts.{EachMay}
 use Rattle.ucl_board.specs.declared.entry.Entry.{Entry}
 use Rattle.ucl_board.specs.History.{IsLegal}
-use Rattle.ucl_board.specs.Log.{Taken, Logged, logged_by, Log, taken_by, added_by, number_of, history_of, enlisted_by, IsLog, LogFacts}
+use Rattle.ucl_log.specs.Log.{Taken, Logged, logged_by, Log, taken_by, added_by, number_of, history_of, enlisted_by, IsLog, LogFacts}
 use Rattle.ucl_live_board.specs.declared.view.View.{View}
 use Rattle.ucl_live_board.specs.Shares.{whole, Overlap}
 use Rattle.ucl_live_board.specs.Views.{first_pass}

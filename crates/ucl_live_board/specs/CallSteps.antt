@@ -5,7 +5,7 @@ use Rattle.ucl_word.specs.declared.event.Accepted.{Accepted}
 use Rattle.ucl_word.specs.declared.refusal.Refusal.{Refusal}
 use Rattle.ucl_board.specs.declared.entry.Entry.{Entry}
 use Rattle.ucl_board.specs.History.{entry_of}
-use Rattle.ucl_board.specs.Log.{Access, Match, Enlisted, Enlists, Taken, step_taken, history_of, enlisted_by}
+use Rattle.ucl_log.specs.Log.{Access, Match, Enlisted, Enlists, Taken, step_taken, history_of, enlisted_by}
 use Rattle.ucl_live_board.specs.declared.view.View.{View}
 use Rattle.ucl_live_board.specs.Views.{Takes}
 

@@ -2,7 +2,7 @@
 use Rattle.std.specs.Prelude.{◌≡◌, ℕ, ◌<◌, List}
 use mathlib.Core.Option.{some}
 use lib.ListN.{get_elem?}
-use Rattle.ucl_board.specs.Log.{number_of}
+use Rattle.ucl_log.specs.Log.{number_of}
 use Rattle.ucl_live_board.specs.declared.view.View.{View}
 
 -- the number was given to a reporter after a moment at which `enlisted` reporters had one and the passes had these views: it is above that

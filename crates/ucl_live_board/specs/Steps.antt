@@ -6,7 +6,7 @@ use Rattle.ucl_word.specs.declared.event.EventCall.{EventCall}
 use Rattle.ucl_word.specs.declared.event.Kind.TheVariants.{KickOff}
 use Rattle.ucl_word.specs.Counts.{EachMay}
 use Rattle.ucl_board.specs.declared.entry.Entry.{Entry}
-use Rattle.ucl_board.specs.Log.{Target, Taken, Logged, Log, logged_by, taken_by, IsLog, MayBeTaken}
+use Rattle.ucl_log.specs.Log.{Target, Taken, Logged, Log, logged_by, taken_by, IsLog, MayBeTaken}
 use Rattle.ucl_live_board.specs.declared.view.View.{View}
 use Rattle.ucl_live_board.specs.PossibleViews.{OccursIn}
 

@@ -1,6 +1,6 @@
 -- Views of passes: what a pass knows and has done.
 use Rattle.std.specs.Prelude.{◌≡◌, ℕ, List, [], ◌∷◌, ◌++◌, None, length, nat_lt, if◌then◌else◌}
-use Rattle.ucl_board.specs.Log.{Access, Taken, Log, added_by, number_of, history_of, enlisted_by, accesses_in}
+use Rattle.ucl_log.specs.Log.{Access, Taken, Log, added_by, number_of, history_of, enlisted_by, accesses_in}
 use Rattle.ucl_live_board.specs.declared.view.View.{View}
 use Rattle.ucl_live_board.specs.Shares.{whole, first_half, second_half}
 use Rattle.ucl_live_board.specs.Passes.{PassView}

@@ -1,14 +1,14 @@
 //! Theorems of every shared board that keeps the invariant, whatever its kinds of step are. The functions do nothing: each is there for its
 //! contract.
 
-ghost use Rattle.ucl_board.specs.Log.{IsLegalRule};
+ghost use Rattle.ucl_log.specs.Log.{IsLegalRule};
 ghost use Rattle.ucl_live_board.specs.BoardInvariant.{StepsComeLast, LastStepsSeeAll, PassesSeePrefixes, NumbersAreApart, WordsCountReporters, HoldersDidAll, WholeIsAlone};
 
 /// What makes a kind of shared board: its words after a history, and the rule by which steps come one after another in its log.
 pub trait BoardRule {
     ghost use Rattle.std.specs.Prelude.{ℕ, List};
     ghost use Rattle.ucl_board.specs.declared.entry.Entry.{Entry};
-    ghost use Rattle.ucl_board.specs.Log.{Logged, Log};
+    ghost use Rattle.ucl_log.specs.Log.{Logged, Log};
 
     // What the words of the board are after a history and so many enlistments of reporters.
     ghost words_after: { List Entry → ℕ → List ℕ };

@@ -2,7 +2,7 @@
 
 ghost use Rattle.std.specs.Prelude.{List};
 ghost use Rattle.std.specs.Borrow.{ftrue};
-ghost use Rattle.ucl_board.specs.Log.{Taken, Log};
+ghost use Rattle.ucl_log.specs.Log.{Taken, Log};
 ghost use Rattle.ucl_live_board.specs.Shares.{Share};
 
 use std::marker::Model;

@@ -26,6 +26,7 @@ pub use Rattle.ucl_board.specs.Fixtures.{IsMatch}
 pub use Rattle.ucl_board.specs.History.{Attempt, IsAttempt, IsLegal, MayFollow, after_attempt, board_after, board_of, sequential_reply}
 pub use Rattle.ucl_board.specs.Words.{AreWords, game_at, read_words, version_of, word_at}
 pub use Rattle.ucl_board.specs.declared.entry.Entry.{Entry}
+pub use Rattle.ucl_board.specs.declared.night_event.NightEvent.{NightEvent}
 pub use Rattle.ucl_command.specs.declared.follow.FollowArgs.{FollowArgs}
 pub use Rattle.ucl_command.specs.declared.live.LiveArgs.{LiveArgs}
 pub use Rattle.ucl_command.specs.declared.options.Format.{Format}
@@ -88,7 +89,6 @@ pub use Rattle.ucl_screen.specs.Events.{attempt_of, event_of, ◌>>=◌}
 pub use Rattle.ucl_screen.specs.Numbers.{in_range}
 pub use Rattle.ucl_screen.specs.Rows.{FourFields}
 pub use Rattle.ucl_screen.specs.Screen.{IsGroup, in_play, letter_in, screen_text}
-pub use Rattle.ucl_screen.specs.declared.night.NightEvent.{NightEvent}
 pub use Rattle.ucl_word.proofs.Sequences.{may_begin, may_last, may_none}
 pub use Rattle.ucl_word.proofs.ValidRecords.{number_valid}
 pub use Rattle.ucl_word.proofs.Words.{record_back, word_high, word_valid}

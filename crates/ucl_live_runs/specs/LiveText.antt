@@ -1,5 +1,6 @@
 -- The text of a session of `ucl_live`: what it answers to its lines. The answer to a bad row has its text, `shown`.
 use Rattle.std.specs.Prelude.{if◌then◌else◌, ◌++◌, ◌+◌, ◌∷◌, Err, List, Ok, Option, Result, [], length, unwrap_or, ℕ}
+use Rattle.ucl_board.specs.declared.night_event.NightEvent.{NightEvent}
 use Rattle.ucl_board.specs.History.{sequential_reply}
 use Rattle.ucl_command.specs.declared.live.LiveArgs.{LiveArgs}
 use Rattle.ucl_json.specs.declared.header.BoardHeader.{BoardHeader}
@@ -9,7 +10,6 @@ use Rattle.ucl_rows.specs.BadRows.{shown_text}
 use Rattle.ucl_rows.specs.InputLines.{lines_of}
 use Rattle.ucl_rows.specs.Rows.{Nothing, Said, said_on}
 use Rattle.ucl_live_runs.specs.declared.live_fault.LiveFault.{LiveFault}
-use Rattle.ucl_screen.specs.declared.night.NightEvent.{NightEvent}
 use Rattle.ucl_word.specs.declared.event.Accepted.{Accepted}
 use Rattle.ucl_word.specs.declared.refusal.Refusal.{Refusal}
 use Rattle.ucl_mends.specs.Mended.{entered, history_in}

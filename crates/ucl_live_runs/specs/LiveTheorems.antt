@@ -4,6 +4,7 @@ use Rattle.std.specs.List.{fold}
 use Rattle.std.specs.Prelude.{Err, List, Ok, Result, [], false, length, ℕ, ⊤}
 use Rattle.ucl_board.specs.History.{Attempt, IsLegal, after_attempt, board_of, sequential_reply}
 use Rattle.ucl_board.specs.declared.entry.Entry.{Entry}
+use Rattle.ucl_board.specs.declared.night_event.NightEvent.{NightEvent}
 use Rattle.ucl_command.specs.declared.live.LiveArgs.{LiveArgs}
 use Rattle.ucl_json.specs.Lines.{AreLinesOfValues, json_line}
 use Rattle.ucl_json.specs.Values.{reply_value}
@@ -22,7 +23,6 @@ use Rattle.ucl_rows.specs.InputLines.{last_lines, lines_of}
 use Rattle.ucl_rows.specs.Rows.{Nothing, Said, said_on}
 use Rattle.ucl_live_runs.specs.declared.live_fault.LiveFault.{LiveFault}
 use Rattle.ucl_screen.specs.Events.{attempt_of}
-use Rattle.ucl_screen.specs.declared.night.NightEvent.{NightEvent}
 use Rattle.std.specs.Prelude.{if◌then◌else◌, ◌++◌, ◌+◌, ◌==◌, ◌∷◌, ◌≡◌}
 use Rattle.ucl_rows.specs.Lines.{reply_line}
 use Rattle.ucl_command.specs.declared.options.Format.{Format}

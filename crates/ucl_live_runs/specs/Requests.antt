@@ -18,7 +18,7 @@ use Rattle.ucl_rows.specs.Rows.{Row, Said}
 use Rattle.ucl_screen.specs.Events.{event_of, ◌>>=◌}
 use Rattle.ucl_screen.specs.Rows.{FourFields}
 use Rattle.ucl_screen.specs.Screen.{letter_in}
-use Rattle.ucl_screen.specs.declared.night.NightEvent.{NightEvent}
+use Rattle.ucl_board.specs.declared.night_event.NightEvent.{NightEvent}
 use Rattle.std.specs.Prelude.{if◌then◌else◌, ◌&&◌, ◌-◌, ◌==◌, ◌∷◌}
 use Rattle.std.specs.Str.{bytes_eq}
 use Rattle.ucl_rows.specs.declared.bad_row.BadField.TheVariants.{Count}

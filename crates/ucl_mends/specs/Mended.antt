@@ -7,8 +7,8 @@ use Rattle.ucl_word.specs.declared.event.Accepted.{Accepted}
 use Rattle.ucl_word.specs.declared.event.EventCall.{EventCall}
 use Rattle.ucl_word.specs.declared.refusal.Refusal.{Refusal}
 use Rattle.ucl_board.specs.declared.entry.Entry.{Entry}
+use Rattle.ucl_board.specs.declared.night_event.NightEvent.{NightEvent}
 use Rattle.ucl_board.specs.History.{entry_of, match_after, sequential_reply}
-use Rattle.ucl_screen.specs.declared.night.NightEvent.{NightEvent}
 use Rattle.ucl_mends.specs.declared.standing.StandingEvent.{StandingEvent}
 use Rattle.ucl_mends.specs.declared.standing.LeftOut.{LeftOut}
 use Rattle.ucl_mends.specs.declared.standing.Fate.{Fate}

@@ -10,8 +10,7 @@ ghost use Rattle.ucl_mends.specs.Standing.{MendsOneMore};
 use crate::mend_refusal::MendRefusal;
 use std::alloc::{AllocError, Global};
 use std::marker::Model;
-use ucl_board::{Board, Entry};
-use ucl_screen::NightEvent;
+use ucl_board::{Board, Entry, NightEvent};
 use ucl_word::{Accepted, EventCall, Refusal};
 
 /// How many events can stand on a board: 4095 of each of twelve matches.

@@ -7,10 +7,10 @@ use Rattle.ucl_pass.proofs.Common.{told_pass, words_after, IsNextBoard, CellStep
 use Rattle.ucl_pass.proofs.Common.{CellRead, CellEnlisted, CellFull, CellMet, TableId, StoresEvent, takes_count, Stays, stays_none, stays_more, IsUpToDate}
 use Rattle.ucl_pass.proofs.Common.{versions_loaded, shown_after, IsLegalStep, history_of, number_of, enlisted_by}
 use Rattle.std.proofs.lemmas.List.Sums.{fold-append}
-use Rattle.ucl_board.specs.Log as logs
-use Rattle.ucl_board.specs.Log.{Enlists, Whole}
+use Rattle.ucl_log.specs.Log as logs
+use Rattle.ucl_log.specs.Log.{Enlists, Whole}
 use Rattle.ucl_board.specs.declared.reading.Reading.{Reading}
-use Rattle.ucl_board.proofs.Logs.{legal_history, history_on}
+use Rattle.ucl_log.proofs.Logs.{legal_history, history_on}
 use Rattle.ucl_live_board.proofs.CallsBySteps.{adds_continue, enlists, meets, stays_continue}
 use Rattle.ucl_live_board.proofs.StepFacts as facts
 use Rattle.ucl_live_board.proofs.StepFacts.{Goes, Sees, Adds, GivesNumber, sound}
@@ -195,7 +195,7 @@ module _ (board same : TableId) (own : same ≡ board) (call : EventCall) (v w u
           accepted = record {
             before = history_of stored.steps.before;
             last = facts.history_is words_after IsLegalStep stored.seat (Whole false) u z stored.steps
-                ∙ ap (λ (o : Option Entry). history_of stored.steps.before ++ Rattle.ucl_board.specs.Log.entry_list o) stored.entry_is;
+                ∙ ap (λ (o : Option Entry). history_of stored.steps.before ++ Rattle.ucl_log.specs.Log.entry_list o) stored.entry_is;
             since = since;
             answer = sym (said (history_of stored.steps.before) (legal_history stored.steps.before stored.steps.follows) board_is);
             mine = adds.mine ∙ ap (λ (l : List Entry). followed_by l e) was.stays.mine;

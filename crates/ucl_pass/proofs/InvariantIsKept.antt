@@ -7,8 +7,8 @@ use Rattle.ucl_pass.proofs.Common.{StoresEvent, StoresReporter, MayStore, Exchan
 use lib.Pointwise.{pointwise, bytes_decides}
 use Rattle.ucl_word.proofs.Sequences.{may_last}
 use Rattle.ucl_board.specs.History.{board_of, MayFollow}
-use Rattle.ucl_board.specs.Log.{Enlists, Whole, step_taken, logged_by, IsThere, MayAdd, MayEnlist}
-use Rattle.ucl_board.proofs.Logs.{legal_history}
+use Rattle.ucl_log.specs.Log.{Enlists, Whole, step_taken, logged_by, IsThere, MayAdd, MayEnlist}
+use Rattle.ucl_log.proofs.Logs.{legal_history}
 use Rattle.ucl_live_board.proofs.InvariantIsKept.{takes_step, words_stay, words_entered, words_enlisted, seconds_keep, notes_keep, joins_keep}
 use Rattle.ucl_live_board.proofs.InvariantIsKept.{opens_keep}
 use Rattle.ucl_pass.specs.CellInvariants.{CellOccurs}

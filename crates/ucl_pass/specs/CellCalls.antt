@@ -5,7 +5,7 @@ use Rattle.ucl_word.specs.declared.event.EventCall.{EventCall}
 use Rattle.ucl_word.specs.declared.event.Accepted.{Accepted}
 use Rattle.ucl_word.specs.declared.refusal.Refusal.{Refusal}
 use Rattle.ucl_board.specs.History.{sequential_reply}
-use Rattle.ucl_board.specs.Log.{history_of, enlisted_by}
+use Rattle.ucl_log.specs.Log.{history_of, enlisted_by}
 use Rattle.ucl_live_board.specs.declared.view.View.{View}
 use Rattle.ucl_pass.specs.CellSteps.{LooksOnly, StoresEvent, StoresReporter}
 

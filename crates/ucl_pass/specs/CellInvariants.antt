@@ -4,7 +4,7 @@ use Rattle.std.specs.Prelude.{◌≡◌, ℕ, true, List, [], ◌∷◌, ◌++�
 use Rattle.std.specs.List.{fold}
 use Rattle.ucl_board.specs.declared.entry.Entry.{Entry}
 use Rattle.ucl_board.specs.History.{board_of}
-use Rattle.ucl_board.specs.Log.{Target, Enlists, Whole, Taken, Log, logged_by, IsLegalStep}
+use Rattle.ucl_log.specs.Log.{Target, Enlists, Whole, Taken, Log, logged_by, IsLegalStep}
 use Rattle.ucl_live_board.specs.declared.view.View.{View}
 use Rattle.ucl_live_board.specs.BoardInvariant.{BoardInvariant}
 use Rattle.ucl_live_board.specs.PossibleViews.{OccursSomewhere}

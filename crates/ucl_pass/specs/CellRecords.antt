@@ -10,7 +10,7 @@ use Rattle.ucl_word.specs.declared.event.EventCall.{EventCall}
 use Rattle.ucl_word.specs.declared.event.Accepted.{Accepted}
 use Rattle.ucl_word.specs.declared.refusal.Refusal.{Refusal}
 use Rattle.ucl_board.specs.declared.reading.Reading.{Reading}
-use Rattle.ucl_board.specs.Log.{IsLegalStep, history_of}
+use Rattle.ucl_log.specs.Log.{IsLegalStep, history_of}
 use Rattle.ucl_live_board.specs.LiveRecords.{LiveReported, LiveRead, LiveSplit, LiveFull, LiveMet}
 use Rattle.ucl_live_board.specs.Passes.{Enlistment, opening_pass}
 use Rattle.ucl_live_board.specs.PossibleViews.{BothOccur}

@@ -6,7 +6,7 @@ use Rattle.ucl_word.specs.declared.event.EventCall.{EventCall}
 use Rattle.ucl_word.specs.Counts.{GainsOne}
 use Rattle.ucl_board.specs.declared.entry.Entry.{Entry}
 use Rattle.ucl_board.specs.History.{IsLegal, entry_of}
-use Rattle.ucl_board.specs.Log.{Target, Enlists, Whole, Taken, number_of, history_of, enlisted_by, IsLegalStep}
+use Rattle.ucl_log.specs.Log.{Target, Enlists, Whole, Taken, number_of, history_of, enlisted_by, IsLegalStep}
 use Rattle.ucl_live_board.specs.declared.view.View.{View}
 use Rattle.ucl_live_board.specs.Steps.{BoardStep}
 use Rattle.ucl_live_board.specs.Views.{Takes}

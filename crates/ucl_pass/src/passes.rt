@@ -2,7 +2,7 @@
 
 ghost use Rattle.std.specs.Prelude.{◌≡◌, length};
 ghost use Rattle.ucl_live_board.specs.Passes.{IsSound};
-ghost use Rattle.ucl_board.specs.Log.{added_by, number_of};
+ghost use Rattle.ucl_log.specs.Log.{added_by, number_of};
 ghost use Rattle.crossbeam_utils.specs.Seq.{cell_view};
 ghost use Rattle.ucl_pass.specs.CellRecords.{CellPass, cell_pass_of};
 ghost use Rattle.ucl_pass.specs.CellInvariants.{cell_pass_view};

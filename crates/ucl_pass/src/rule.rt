@@ -1,7 +1,7 @@
 //! The invariant of a cell board, and the kinds of steps on it, by which contracts tell what a step does. A kind is a struct without
 //! fields; `K: Asking` says, only in proofs, for which event a step is.
 
-ghost use Rattle.ucl_board.specs.Log.{IsLegalStep};
+ghost use Rattle.ucl_log.specs.Log.{IsLegalStep};
 ghost use Rattle.ucl_live_board.specs.Views.{new_pass, first_pass, left_pass, second_pass, note_pass, told_pass};
 ghost use Rattle.ucl_pass.specs.CellInvariants.{CellInvariant, words_after};
 ghost use Rattle.ucl_pass.specs.CellSteps.{LooksOnly, LooksAndShows, MayStore, StoresEvent, StoresReporter};

@@ -1,6 +1,6 @@
 //! Theorems on every cell board. The functions do nothing: each is there for its contract.
 
-ghost use Rattle.ucl_board.specs.Log.{IsLegalRule, IsLegalStep};
+ghost use Rattle.ucl_log.specs.Log.{IsLegalRule, IsLegalStep};
 ghost use Rattle.ucl_pass.specs.CellSteps.{LogsOneStep};
 
 use crate::rule::{Adds, Asking, Enlists, Looks, Reads};

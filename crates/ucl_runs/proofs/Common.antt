@@ -20,6 +20,7 @@ unfoldable pub use Rattle.ucl_board.specs.History.{board_of}
 pub use Rattle.ucl_board.specs.History.{followed_by, sequential_reply, snapshot_at}
 pub use Rattle.ucl_board.specs.declared.entry.Entry.{Entry}
 pub use Rattle.ucl_board.specs.declared.reading.Reading.{Reading}
+pub use Rattle.ucl_board.specs.declared.night_event.NightEvent.{NightEvent}
 pub use Rattle.ucl_live_board.specs.Passes.{Continues, IsReadingOf, IsSound, PassView, SharedReading, entries_by, kept_pass, split_pass}
 pub use Rattle.ucl_order.specs.declared.profile.Profile.{Profile}
 pub use Rattle.ucl_rows.specs.Run.{IsStopped, TextHas}
@@ -38,7 +39,6 @@ pub use Rattle.ucl_screen.proofs.EventsInTurn.{AreEntered, entered-all, entered-
 pub use Rattle.ucl_screen.specs.Parsing.{MeansNight, MeansSheet, night_seen, sheet_seen}
 pub use Rattle.ucl_screen.specs.Screen.{screen_text}
 pub use Rattle.ucl_screen.specs.Script.{Script}
-pub use Rattle.ucl_screen.specs.declared.night.NightEvent.{NightEvent}
 pub use Rattle.ucl_word.proofs.Sequences.{at_below, at_either, at_end, get_some, take_one}
 pub use Rattle.ucl_word.specs.Counts.{MatchEntry, counted_match}
 pub use Rattle.ucl_word.specs.Layout.{word_of}

@@ -1,8 +1,8 @@
 -- The text of `feed`: a line with the reply to each event of a script, and then a line for each word of the board.
 use Rattle.std.specs.Prelude.{◌≡◌, ℕ, List, [], ◌++◌, map, Ok}
 use Rattle.ucl_board.specs.declared.entry.Entry.{Entry}
+use Rattle.ucl_board.specs.declared.night_event.NightEvent.{NightEvent}
 use Rattle.ucl_board.specs.History.{accepted_of, board_of}
-use Rattle.ucl_screen.specs.declared.night.NightEvent.{NightEvent}
 use Rattle.ucl_screen.specs.Events.{attempt_of, each_in_turn}
 use Rattle.ucl_screen.specs.Script.{Script, first_event_row}
 use Rattle.ucl_screen.specs.Parsing.{MeansNight}

@@ -8,8 +8,8 @@ use Rattle.ucl_word.specs.declared.event.EventCall.{EventCall}
 use Rattle.ucl_word.specs.declared.event.Accepted.{Accepted}
 use Rattle.ucl_word.specs.declared.refusal.Refusal.{Refusal}
 use Rattle.ucl_board.specs.declared.entry.Entry.{Entry}
+use Rattle.ucl_board.specs.declared.night_event.NightEvent.{NightEvent}
 use Rattle.ucl_board.specs.History.{IsLegal, Attempt, attempted, entry_of, sequential_reply, accepted_of, board_of, snapshot_at}
-use Rattle.ucl_screen.specs.declared.night.NightEvent.{NightEvent}
 use Rattle.ucl_screen.specs.Script.{first_event_row}
 use Rattle.ucl_live_board.specs.declared.live_board.LiveBoard as boards
 use Rattle.ucl_live_board.specs.LiveRecords.{LiveReported}

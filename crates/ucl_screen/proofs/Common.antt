@@ -34,6 +34,7 @@ pub use Rattle.ucl_board.specs.Fixtures.{match_numbers}
 pub use Rattle.ucl_board.specs.History.{after_attempt}
 pub use Rattle.ucl_board.specs.Words.{max_version, read_words}
 pub use Rattle.ucl_board.specs.declared.entry.Entry.{Entry}
+pub use Rattle.ucl_board.specs.declared.night_event.NightEvent.{NightEvent}
 pub use Rattle.ucl_order.specs.Roster.{is_name, is_printed}
 pub use Rattle.ucl_order.specs.Rows.{IsWithinTable}
 pub use Rattle.ucl_order.specs.declared.mark.Mark.{Mark}
@@ -55,5 +56,4 @@ pub use Rattle.ucl_screen.specs.Theorems.{LinesHave53Columns}
 pub use Rattle.ucl_screen.specs.declared.fault.InputFault.{InputFault}
 pub use Rattle.ucl_screen.specs.declared.fault.InputFault.TheVariants.{BadRow}
 pub use Rattle.ucl_screen.specs.declared.night.Night.{Night}
-pub use Rattle.ucl_screen.specs.declared.night.NightEvent.{NightEvent}
 pub use Rattle.ucl_screen.specs.declared.sheet.Sheet.{Sheet}

@@ -6,7 +6,7 @@ use Rattle.std.specs.Str.{bytes_eq}
 use Rattle.ucl_order.specs.Roster.{NamedClub, bad_slot}
 use Rattle.ucl_screen.specs.declared.fault.InputFault.{InputFault}
 use Rattle.ucl_screen.specs.declared.fault.InputFault.TheVariants.{BadRow, BadRoster, OutOfMemory, TooLong}
-use Rattle.ucl_screen.specs.declared.night.NightEvent.{NightEvent}
+use Rattle.ucl_board.specs.declared.night_event.NightEvent.{NightEvent}
 use Rattle.ucl_screen.specs.Numbers.{number, is_number, hex_word}
 use Rattle.ucl_screen.specs.Rows.{Fields, FourFields, four_of, rows_of}
 use Rattle.ucl_screen.specs.Input.{whole_input}

@@ -33,7 +33,7 @@ pub use fault::InputFault;
 pub use fault_line::FaultLine;
 pub use fields::{call_of_fields, expected_of_field, hex_word, match_of_field, reporter_of_field};
 pub use games::{matches, state_name};
-pub use night::{Night, NightEvent};
+pub use night::Night;
 pub use plain::{FirstRow, first_row, without_mark};
 pub use reading::{
     FIRST_EVENT_ROW, club_of_fields, event_of_fields, lent_club, night_of_bytes, read_night,
@@ -43,4 +43,5 @@ pub use rows::{Four, RowFields, four_fields, next_row, open_rows};
 pub use sheet::Sheet;
 pub use text::{is_group, letter_in, matches_in_play, screen, text_of};
 pub use theorems::lines_have_53_columns;
+pub use ucl_board::NightEvent;
 pub use ucl_io::{FromRead, Sink, Source, ToWrite, give_all};

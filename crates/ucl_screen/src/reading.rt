@@ -12,13 +12,13 @@ ghost use Rattle.ucl_screen.specs.Parsing.{AnswersAsSaid, MeansNight, MeansSheet
 
 use crate::fault::InputFault;
 use crate::fields::{call_of_fields, hex_word, number, reporter_of_field};
-use crate::night::{Night, NightEvent};
+use crate::night::Night;
 use crate::rows::{Four, RowFields, Rows};
 use crate::sheet::Sheet;
 use crate::transfer::{MAX_INPUT_BYTES, read_all};
 use csv::ByteRecord;
 use std::alloc::{AllocError, Global};
-use ucl_board::Board;
+use ucl_board::{Board, NightEvent};
 use ucl_io::Source;
 use ucl_order::{Club, LentClub, Roster};
 

@@ -8,7 +8,7 @@ use Rattle.ucl_steps.proofs.Common.{take_beginning, AccessKind, Access, access, 
 use Rattle.ucl_steps.proofs.Common.{UncleanTriesSeeMore, UncleanTriesAreFew, ReadingsAreSnapshots, ReportsAreSequential}
 use Rattle.ucl_board.specs.declared.reading.Reading.{Reading}
 use Rattle.ucl_steps.proofs.Histories.{get_some, number_expected, read_back, squeezed, board_from}
-use Rattle.ucl_board.specs.Log.{Look, Swap}
+use Rattle.ucl_log.specs.Log.{Look, Swap}
 
 -- accesses that follow a history from one length of it to another: the second is no less
 pub follows_ends : (h : List Entry) (low high : ℕ) (ms : List Access) → Follows h low ms high → low ≤ high

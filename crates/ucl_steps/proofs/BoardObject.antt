@@ -4,7 +4,7 @@ use Rattle.ucl_steps.proofs.Common.{subst, arith, append-nil, cases_order, cases
 use Rattle.ucl_steps.proofs.Common.{Call, Reply, FinishedCall, IsLegal, IsPrefix}
 use Rattle.ucl_steps.proofs.Common.{All, All-append, All-cons, IsMatch, Pending, NoCall, Outcome, ◌∷◌}
 use Rattle.ucl_word.proofs.Sequences.{may_begin, may_induction, may_last}
-use Rattle.ucl_board.specs.Log.{AccessKind, Look, IsLog, IsThere, Log, Match, MayBeTaken, Target, history_of}
+use Rattle.ucl_log.specs.Log.{AccessKind, Look, IsLog, IsThere, Log, Match, MayBeTaken, Target, history_of}
 use Rattle.ucl_steps.specs.ClientState.{ClientState, FollowsProtocol, IsCall, IsNextFor, IsNextOfProtocol, call_asked, client_at, outcome}
 use Rattle.ucl_steps.specs.Protocol.{MayAsk}
 use Rattle.ucl_steps.specs.Linearizability.{Operation, IsLinearization, IsOperation, IsWellFormed, Linearizes, is_response, state_after}

@@ -1,6 +1,6 @@
 -- A finished call of a log as an operation of the log's history of calls.
 use Rattle.ucl_steps.proofs.Common.{ℕ, ◌+◌, ◌-◌, length, take, Reply, Call, FinishedCall}
-use Rattle.ucl_board.specs.Log.{Log}
+use Rattle.ucl_log.specs.Log.{Log}
 use Rattle.ucl_steps.specs.BoardObject.{operation_at}
 use Rattle.ucl_steps.specs.CallEvents.{call_events}
 use Rattle.ucl_steps.specs.Linearizability.{Operation}

@@ -6,7 +6,7 @@ use Rattle.ucl_steps.proofs.Common.{Call, Event, Reading, Reply}
 use Rattle.ucl_steps.proofs.Common.{Pending, NoCall, Holding, Collecting, Checking, Outcome, GoesOn, Answers, FinishedCall, IsMatch}
 use Rattle.std.specs.Prelude.{not}
 use Rattle.ucl_word.proofs.Sequences.{may_induction, may_begin, may_last}
-use Rattle.ucl_board.specs.Log.{AccessKind, Look, Swap, First, Second, Enlisted, Enlists, Whole, IsLog, IsThere, Log, Logged, Match, MayBeTaken, Target}
+use Rattle.ucl_log.specs.Log.{AccessKind, Look, Swap, First, Second, Enlisted, Enlists, Whole, IsLog, IsThere, Log, Logged, Match, MayBeTaken, Target}
 use Rattle.ucl_steps.specs.ClientState.{ClientState, FollowsProtocol, IsNextFor, IsNextOfProtocol, call_answered, call_asked, client_at, first_place}
 use Rattle.ucl_steps.specs.ClientState.{next_game, outcome, with_outcome, with_step, with_target}
 use Rattle.ucl_steps.specs.ClientState.{IsCall}

@@ -8,9 +8,9 @@ use Rattle.ucl_steps.proofs.Common.{by_rules, drop, FinishedCall, accepts}
 use Rattle.std.specs.List.{fold}
 use Rattle.std.proofs.lemmas.List.Sums.{fold-append}
 use Rattle.ucl_word.proofs.Sequences.{may_induction, may_begin, may_last}
-use Rattle.ucl_board.specs.Log.{Enlisted, Enlists, First, IsLog, Log, Logged, Look, Match, MayBeTaken, Second, Swap, Taken, Target, Whole, entry_list}
-use Rattle.ucl_board.specs.Log.{history_of, taken_by, enlisted_by, number_by, number_of, MayEnlist, LogFacts}
-use Rattle.ucl_board.proofs.Logs.{history_append, history_more, taken_own, taken_other}
+use Rattle.ucl_log.specs.Log.{Enlisted, Enlists, First, IsLog, Log, Logged, Look, Match, MayBeTaken, Second, Swap, Taken, Target, Whole, entry_list}
+use Rattle.ucl_log.specs.Log.{history_of, taken_by, enlisted_by, number_by, number_of, MayEnlist, LogFacts}
+use Rattle.ucl_log.proofs.Logs.{history_append, history_more, taken_own, taken_other}
 use Rattle.ucl_steps.specs.ClientState.{ClientState, FollowsProtocol, IsNextFor, IsNextOfProtocol, with_outcome, with_target, with_step}
 use Rattle.ucl_steps.specs.ClientState.{call_answered, client_at, client_of, entry_by, first_place, new_client, outcome}
 use Rattle.ucl_steps.proofs.Points.{entries_before, point_at, point_of, pointed}

@@ -16,7 +16,7 @@ pub use Rattle.ucl_board.proofs.HistoryTheorems.{board_length, entries-append, e
 pub use Rattle.ucl_board.proofs.HistoryTheorems.{legal_take, may_attempt, same_number, same_word, versions}
 pub use Rattle.ucl_board.specs.Fixtures.{IsMatch}
 pub use Rattle.ucl_board.specs.History.{IsLegal, MayFollow, attempted, board_of, entries_of, entry_of, match_after, reading_of, sequential_reply, snapshot_at}
-pub use Rattle.ucl_board.specs.Log.{Access, AccessKind, access}
+pub use Rattle.ucl_log.specs.Log.{Access, AccessKind, access}
 pub use Rattle.ucl_board.specs.Words.{AreWords, max_version, version_of, word_at}
 pub use Rattle.ucl_board.specs.declared.entry.Entry.{Entry}
 pub use Rattle.ucl_steps.specs.Theorems.{ReadingsAreSnapshots, ReportsAreSequential, RunsAreLinearizable, UncleanTriesAreFew}

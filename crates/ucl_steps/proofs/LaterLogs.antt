@@ -4,8 +4,8 @@ use Rattle.ucl_steps.proofs.Common.{at_beginning, IsPrefix, FinishedCall}
 use Rattle.std.specs.List.{fold}
 use Rattle.std.proofs.lemmas.List.Sums.{fold-append}
 use Rattle.ucl_word.proofs.Sequences.{may_begin}
-use Rattle.ucl_board.specs.Log.{IsLog, Log, Logged, MayBeTaken, Taken, taken_by}
-use Rattle.ucl_board.proofs.Logs.{knows_step, taken_append}
+use Rattle.ucl_log.specs.Log.{IsLog, Log, Logged, MayBeTaken, Taken, taken_by}
+use Rattle.ucl_log.proofs.Logs.{knows_step, taken_append}
 use Rattle.ucl_steps.proofs.Clients.{all_in_turn, calls_kept}
 use Rattle.ucl_steps.proofs.Histories.{get_some}
 use Rattle.ucl_steps.specs.ClientState.{ClientState, FollowsProtocol, client_at, client_of, new_client, with_step}

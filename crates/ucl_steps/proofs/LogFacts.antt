@@ -6,9 +6,9 @@ use Rattle.ucl_steps.proofs.Common.{IsLegal, after, attempted, entry_of, match_a
 use Rattle.ucl_steps.proofs.Common.{FinishedCall, Outcome, GoesOn, Answers, Pending, Holding, Collecting, Checking, Copied, by_rules, reading_of}
 use Rattle.ucl_steps.proofs.Histories.{read_back}
 use Rattle.ucl_word.proofs.Sequences.{may_induction, may_begin, may_last}
-use Rattle.ucl_board.specs.Log.{AccessKind, Look, Swap, First, Second, Enlisted, Enlists, Whole, IsLog, Log, Logged, Match, MayBeTaken, Taken, Target, IsThere, MayAdd}
-use Rattle.ucl_board.specs.Log.{IsLegalStep, HasLegalSteps, IsLegalRule, LogFacts, history_of, number_of, taken_by}
-use Rattle.ucl_board.proofs.Logs.{log_facts, legal_history}
+use Rattle.ucl_log.specs.Log.{AccessKind, Look, Swap, First, Second, Enlisted, Enlists, Whole, IsLog, Log, Logged, Match, MayBeTaken, Taken, Target, IsThere, MayAdd}
+use Rattle.ucl_log.specs.Log.{IsLegalStep, HasLegalSteps, IsLegalRule, LogFacts, history_of, number_of, taken_by}
+use Rattle.ucl_log.proofs.Logs.{log_facts, legal_history}
 use Rattle.ucl_steps.proofs.Clients.{by_seat, client_number, count_none, enlist_none, first_none, look_none, may_enlist, second_none}
 use Rattle.ucl_steps.specs.ClientState.{ClientState, FollowsProtocol, IsNextFor, IsNextOfProtocol, call_answered, client_at, entry_by, next_game}
 use Rattle.ucl_steps.specs.ClientState.{outcome, with_outcome, with_step, with_target}

@@ -1,6 +1,6 @@
 -- The history of a log explains its calls: their replies are those of its run of the machine.
 use Rattle.ucl_steps.proofs.Common.{ℕ, ◌+◌, arith, FinishedCall}
-use Rattle.ucl_board.specs.Log.{IsLog, Log, history_of}
+use Rattle.ucl_log.specs.Log.{IsLog, Log, history_of}
 use Rattle.ucl_steps.proofs.Calls.{explained_by}
 use Rattle.ucl_steps.proofs.Clients.{all_in_turn, entries_low, entries_rise, last_below}
 use Rattle.ucl_steps.proofs.LogRuns.{run_of}

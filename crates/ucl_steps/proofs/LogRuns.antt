@@ -20,9 +20,9 @@ use Rattle.ucl_steps.proofs.Clients.{begins, by_seat, look_none, first_none, sec
 use Rattle.ucl_steps.proofs.Clients.{numbers_low, numbers_apart, point_new, point_same}
 use Rattle.ucl_steps.proofs.Points.{point_at, point_of, pointed}
 use Rattle.ucl_steps.proofs.LogFacts.{Offers, Sees, logs_facts, logs_sound}
-use Rattle.ucl_board.proofs.Logs.{history_more, history_same, enlisted_more, below_more}
-use Rattle.ucl_board.specs.Log.{AccessKind, Look, Swap, First, Second, Target, Match, Enlisted, Enlists, Taken, Logged, Log, history_of, enlists, enlisted_by}
-use Rattle.ucl_board.specs.Log.{IsThere, MayBeTaken, IsLog, Whole, LogFacts, entry_list}
+use Rattle.ucl_log.proofs.Logs.{history_more, history_same, enlisted_more, below_more}
+use Rattle.ucl_log.specs.Log.{AccessKind, Look, Swap, First, Second, Target, Match, Enlisted, Enlists, Taken, Logged, Log, history_of, enlists, enlisted_by}
+use Rattle.ucl_log.specs.Log.{IsThere, MayBeTaken, IsLog, Whole, LogFacts, entry_list}
 use Rattle.ucl_steps.specs.ClientState.{ClientState, client_at, outcome, with_outcome, with_step, next_game, IsNextFor, entry_by}
 use Rattle.ucl_steps.specs.ClientState.{IsNextOfProtocol, FollowsProtocol, call_asked, call_answered}
 use Rattle.ucl_steps.specs.ClientState.{IsCall}

@@ -6,8 +6,8 @@ use Rattle.ucl_steps.proofs.Common.{IsMatch, IsReporter, match_after, word_of, r
 use Rattle.ucl_steps.proofs.Common.{Accepted, Copied, Refused, Stale, MatchRecord, Pending, NoCall, Holding, Collecting, Checking, Outcome, GoesOn, Answers, by_rules}
 use Rattle.ucl_steps.proofs.Histories.{board_get, read_back, take_one}
 use Rattle.ucl_word.specs.declared.event.Accepted as event
-use Rattle.ucl_board.specs.Log.{AccessKind, Look, Swap, First, Second, IsLog, Log, Logged, Match, MayBeTaken, Target, entry_list, history_of, logged_by, step_taken}
-use Rattle.ucl_board.proofs.Logs.{history_more, history_same}
+use Rattle.ucl_log.specs.Log.{AccessKind, Look, Swap, First, Second, IsLog, Log, Logged, Match, MayBeTaken, Target, entry_list, history_of, logged_by, step_taken}
+use Rattle.ucl_log.proofs.Logs.{history_more, history_same}
 use Rattle.ucl_board.proofs.HistoryTheorems.{begins_through}
 use Rattle.ucl_steps.proofs.Clients.{client_other, client_own}
 use Rattle.ucl_steps.proofs.LogFacts.{logs_legal}

@@ -9,9 +9,9 @@ use Rattle.ucl_steps.proofs.Common.{Call, Reply, Pending, Outcome, GoesOn, Answe
 use Rattle.std.specs.Prelude.{filter}
 use Rattle.std.proofs.lemmas.List.Elements.{filter-append}
 use Rattle.ucl_word.proofs.Sequences.{may_begin, may_induction, may_last}
-use Rattle.ucl_board.specs.Log.{Enlists, IsLog, Log, Logged, MayBeTaken, Taken, Target, entry_list, history_of}
+use Rattle.ucl_log.specs.Log.{Enlists, IsLog, Log, Logged, MayBeTaken, Taken, Target, entry_list, history_of}
 use Rattle.ucl_board.proofs.HistoryTheorems.{begins_same, begins_through}
-use Rattle.ucl_board.proofs.Logs.{history_more}
+use Rattle.ucl_log.proofs.Logs.{history_more}
 use Rattle.ucl_steps.proofs.Clients.{AllInTurn, point_new, pointed_same, all_in_turn, by_seat, checking, client_own, entries_all, entries_rise, entries_same, last_below, look_none}
 use Rattle.ucl_steps.proofs.LaterLogs.{calls_stay}
 use Rattle.ucl_steps.proofs.LogHistory.{logs_have_points}

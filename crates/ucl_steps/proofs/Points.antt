@@ -1,7 +1,7 @@
 -- Linearization points: a call with point k takes effect after the first k entries of the history. Which each finished call of a log has.
 use Rattle.ucl_steps.proofs.Common.{◌≡◌, ℕ, ◌+◌, ◌<◌, ◌≤◌, true, List, length, take, Some, slice_get, Entry, EventCall, entry_of, sequential_reply, snapshot_at}
 use Rattle.ucl_steps.proofs.Common.{Call, Event, Reading, Reply, Copied, FinishedCall, Pending, Checking, accepts}
-use Rattle.ucl_board.specs.Log.{Log, history_of}
+use Rattle.ucl_log.specs.Log.{Log, history_of}
 use Rattle.ucl_steps.specs.ClientState.{IsCall, client_at}
 use Rattle.ucl_steps.specs.Protocol.{report_reply}
 

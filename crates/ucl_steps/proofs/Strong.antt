@@ -11,7 +11,7 @@ use Rattle.ucl_word.specs.Layout.{word_of}
 use Rattle.ucl_word.specs.Rules.{refusal_of}
 use Rattle.ucl_word.specs.declared.event.Kind.TheVariants.{KickOff}
 use Rattle.ucl_word.proofs.Sequences.{may_none}
-use Rattle.ucl_board.specs.Log.{Enlists, Log, Logged, MayBeTaken, history_of, logged_by, step_taken}
+use Rattle.ucl_log.specs.Log.{Enlists, Log, Logged, MayBeTaken, history_of, logged_by, step_taken}
 use Rattle.ucl_board.proofs.HistoryTheorems.{begins_through, entries_else}
 use Rattle.ucl_steps.proofs.CallEvents.{answered_at, operation_of}
 use Rattle.ucl_steps.proofs.CallHistories.{all_traced, at_rest}

@@ -1,6 +1,6 @@
 -- The history of calls of a log: each call is invoked just before its first step, and has its response just after its last.
 use Rattle.std.specs.Prelude.{ℕ, List, [], ◌∷◌, ◌++◌}
-use Rattle.ucl_board.specs.Log.{Target, Match, Log}
+use Rattle.ucl_log.specs.Log.{Target, Match, Log}
 use Rattle.ucl_steps.specs.declared.step.Call.{Call}
 use Rattle.ucl_steps.specs.BoardObject.{BoardEvent}
 use Rattle.ucl_steps.specs.ClientState.{ClientState, call_asked, client_at, outcome}

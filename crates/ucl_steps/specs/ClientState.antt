@@ -10,7 +10,7 @@ use Rattle.ucl_steps.specs.declared.step.Call.{Call}
 use Rattle.ucl_steps.specs.declared.step.Call.TheVariants.{Event, Reading}
 use Rattle.ucl_steps.specs.declared.trace.Reply.{Reply}
 use Rattle.ucl_steps.specs.Protocol.{Pending, NoCall, Holding, Collecting, Checking, Outcome, GoesOn, Answers, looked, swapped, loaded, compared}
-use Rattle.ucl_board.specs.Log.{AccessKind, Look, Swap, First, Second, Target, Match, Enlists, Whole, Taken, Logged, Log, taken_by}
+use Rattle.ucl_log.specs.Log.{AccessKind, Look, Swap, First, Second, Target, Match, Enlists, Whole, Taken, Logged, Log, taken_by}
 
 -- a call that has its reply: the number of its pass (0 for a reader), what it asked, the reply, and the places in the log of its first step and
 -- of its last

@@ -10,7 +10,7 @@ use Rattle.ucl_steps.specs.declared.step.Step.{Step}
 use Rattle.ucl_steps.specs.declared.step.Step.TheVariants as machine
 use Rattle.ucl_steps.specs.Protocol.{Pending, NoCall, Outcome, GoesOn, Answers}
 use Rattle.ucl_steps.specs.Machine.{CallerState, MachineState, Idle, Within, initial_state, held_by, after_steps}
-use Rattle.ucl_board.specs.Log.{AccessKind, Look, Swap, First, Second, Target, Match, Logged, Log, history_of, IsLog}
+use Rattle.ucl_log.specs.Log.{AccessKind, Look, Swap, First, Second, Target, Match, Logged, Log, history_of, IsLog}
 use Rattle.ucl_steps.specs.ClientState.{client_at, call_asked, outcome, FollowsProtocol}
 
 -- the caller of the machine that stands for the pass with this seat and number: the reader of its seat until the pass is enlisted, then the

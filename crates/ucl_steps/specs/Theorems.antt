@@ -13,7 +13,7 @@ use Rattle.ucl_steps.specs.declared.step.Step.{Step}
 use Rattle.ucl_steps.specs.Machine.{MachineState, initial_state, after_steps}
 use Rattle.ucl_steps.specs.RunHistory.{IsLinearizableRun, run_events}
 use Rattle.ucl_steps.specs.Seen.{ReadsWhole}
-use Rattle.ucl_board.specs.Log.{Access}
+use Rattle.ucl_log.specs.Log.{Access}
 use Rattle.ucl_steps.specs.Trails.{Follows, ReportAccesses, decided_at, max_tries, max_loads, IsUnclean, accesses_of, ReadingAccesses}
 
 -- the calls of every list of enabled steps of any reporters and readers, cut off anywhere, are linearizable, in the order of their points.

@@ -12,7 +12,7 @@ use Rattle.ucl_board.specs.declared.entry.Entry.{Entry}
 use Rattle.ucl_board.specs.declared.reading.Reading.{Reading}
 use Rattle.ucl_board.specs.Words.{max_version}
 use Rattle.ucl_board.specs.History.{match_after}
-use Rattle.ucl_board.specs.Log.{AccessKind, Look, Swap, First, Second, Access, access}
+use Rattle.ucl_log.specs.Log.{AccessKind, Look, Swap, First, Second, Access, access}
 
 -- an access is of this kind, on the word of this match
 abbrev pub Does : AccessKind → ℕ → Access → Type 0

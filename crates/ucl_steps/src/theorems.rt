@@ -1,7 +1,7 @@
 //! Theorems of every list of steps of the machine, and of every log: the steps that passes took on a shared board. The functions do
 //! nothing: each is there for its contract.
 
-ghost use Rattle.ucl_board.specs.Log.{Log, IsLog, IsLegalRule, LogFacts};
+ghost use Rattle.ucl_log.specs.Log.{Log, IsLog, IsLegalRule, LogFacts};
 ghost use Rattle.ucl_steps.specs.ClientState.{FollowsProtocol, IsNextOfProtocol};
 ghost use Rattle.ucl_steps.specs.Theorems.{RunsAreLinearizable, RunsReadWhole, WordsAreOfTheHistory, UncleanTriesSeeMore, UncleanTriesAreFew, ReadingsAreSnapshots, ReportsAreSequential};
 ghost use Rattle.ucl_steps.specs.BoardObject.{CallsAreLinearizable};

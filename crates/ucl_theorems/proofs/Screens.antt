@@ -9,8 +9,8 @@ use Rattle.ucl_screen.specs.Screen.{screen_text}
 use mathlib.Core.List.{IsPrefix}
 use Rattle.atomic_table.specs.Table.{State}
 use Rattle.ucl_board.specs.declared.entry.Entry.{Entry}
-use Rattle.ucl_board.proofs.Logs.{taken_none}
-use Rattle.ucl_board.specs.Log.{Logged}
+use Rattle.ucl_log.proofs.Logs.{taken_none}
+use Rattle.ucl_log.specs.Log.{Logged}
 use Rattle.ucl_steps.specs.ClientState.{FinishedCall, IsCall}
 use Rattle.ucl_steps.specs.Seen.{CallsReadWhole}
 use Rattle.ucl_steps.proofs.BoardObject.{calls_linearizable}

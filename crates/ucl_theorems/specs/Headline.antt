@@ -16,7 +16,7 @@ use Rattle.ucl_steps.specs.declared.step.Cast.{Cast}
 use Rattle.ucl_steps.specs.declared.step.Step.{Step}
 use Rattle.ucl_steps.specs.Machine.{MachineState, initial_state, after_steps}
 use Rattle.ucl_steps.specs.RunHistory.{IsLinearizableRun}
-use Rattle.ucl_board.specs.Log.{Logged, Log, IsLog, taken_by, history_of}
+use Rattle.ucl_log.specs.Log.{Logged, Log, IsLog, taken_by, history_of}
 use Rattle.ucl_steps.specs.ClientState.{FinishedCall, FollowsProtocol, IsCall, client_at}
 use Rattle.ucl_steps.specs.BoardObject.{HasLinearizableCalls}
 use Rattle.ucl_steps.specs.Seen.{HasSeen, accepts}

@@ -15,14 +15,14 @@ pub use Rattle.std.specs.List.{AllByRecursion, flat_map}
 pub use Rattle.std.specs.Prelude.{All, Err, IfErr, IfOk, IsOk, IsSome, Ok, Result, nat_lt, slice_get, slice_index}
 pub use Rattle.ucl_board.proofs.HistoryTheorems.{accepted_reply, board_words, game_after, match_valid, refused_reply, word_after}
 pub use Rattle.ucl_board.proofs.HistoryTheorems.{beginnings, entry_known, may_attempt, versions}
-pub use Rattle.ucl_board.proofs.Logs.{accesses_append, by_seat, enlisted_on, log_begins, number_more, shorter, taken_on}
+pub use Rattle.ucl_log.proofs.Logs.{accesses_append, by_seat, enlisted_on, log_begins, number_more, shorter, taken_on}
 pub use Rattle.ucl_board.proofs.HistoryTheorems.{begins_length, begins_more, begins_same, begins_through}
 pub use Rattle.ucl_board.specs.Fixtures.{IsMatch}
 pub use Rattle.ucl_board.specs.History.{IsLegal, MayFollow, attempted, board_of, entry_of, followed_by, match_after, reading_of}
 pub use Rattle.ucl_board.specs.History.{sequential_reply}
-pub use Rattle.ucl_board.specs.Log.{Access, AccessKind, Enlisted, Enlists, First, IsLog, IsThere, Log, Logged, Look, Match, MayBeTaken}
-pub use Rattle.ucl_board.specs.Log.{Second, Swap, Taken, Target, Whole, access, accesses_in, added_by, enlisted_by, history_of, logged_by}
-pub use Rattle.ucl_board.specs.Log.{number_by, number_of, step_taken, taken_by}
+pub use Rattle.ucl_log.specs.Log.{Access, AccessKind, Enlisted, Enlists, First, IsLog, IsThere, Log, Logged, Look, Match, MayBeTaken}
+pub use Rattle.ucl_log.specs.Log.{Second, Swap, Taken, Target, Whole, access, accesses_in, added_by, enlisted_by, history_of, logged_by}
+pub use Rattle.ucl_log.specs.Log.{number_by, number_of, step_taken, taken_by}
 pub use Rattle.ucl_board.specs.Words.{AreWords, max_version, version_of, word_at}
 pub use Rattle.ucl_board.specs.declared.entry.Entry.{Entry}
 pub use Rattle.ucl_board.specs.declared.reading.Reading.{Reading}

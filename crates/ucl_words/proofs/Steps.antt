@@ -18,7 +18,7 @@ use Rattle.ucl_words.proofs.Common.{steps_with, sym, takes_count, takes_none, ta
 use Rattle.ucl_words.proofs.Common.{versions_by, versions_shown, with_step, with_target, word_after, word_of, words_after, words_enlisted}
 use Rattle.ucl_words.proofs.Common.{words_entered, words_stay, ◌++◌, ◌+◌, ◌-◌, ◌<◌, ◌==◌, ◌∙◌, ◌∷◌, ◌≡◌, ◌≢◌, ◌≤◌, ℕ}
 use mathlib.Core.Option as core
-use Rattle.ucl_board.specs.Log.{enlists}
+use Rattle.ucl_log.specs.Log.{enlists}
 use Rattle.ucl_steps.proofs.LogFacts.{Offers, Sees as SeesPending}
 
 -- the words of a board and the views of its passes, between two steps

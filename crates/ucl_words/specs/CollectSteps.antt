@@ -2,7 +2,7 @@
 -- of the pass before, `new` afterwards.
 use Rattle.std.specs.Prelude.{◌≡◌, ℕ, ◌≤◌, List, [], length, Some, None, slice_get}
 use Rattle.ucl_word.specs.declared.event.EventCall.{EventCall}
-use Rattle.ucl_board.specs.Log.{First, Second, Access, added_by, history_of, number_of}
+use Rattle.ucl_log.specs.Log.{First, Second, Access, added_by, history_of, number_of}
 use Rattle.ucl_steps.specs.declared.step.Call.{Call}
 use Rattle.ucl_steps.specs.declared.trace.Reply.{Reply}
 use Rattle.ucl_steps.specs.Protocol.{Pending, NoCall, Holding, Collecting}

@@ -5,7 +5,7 @@ use mathlib.Core.List.{IsPrefix}
 use lib.ListN.{get_elem?}
 use Rattle.atomic_table.specs.Table.{State, Step, Me}
 use Rattle.ucl_board.specs.declared.entry.Entry.{Entry}
-use Rattle.ucl_board.specs.Log.{enlisted_by}
+use Rattle.ucl_log.specs.Log.{enlisted_by}
 use Rattle.ucl_live_board.specs.CallSteps.{CountsReporters}
 use Rattle.ucl_live_board.specs.declared.view.View.{View}
 use Rattle.ucl_words.specs.TableInvariants.{TableInvariant}

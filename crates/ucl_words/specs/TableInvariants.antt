@@ -5,7 +5,7 @@ use Rattle.atomic_table.specs.Table.{State, Step, Me}
 use Rattle.ucl_word.specs.declared.event.EventCall.{EventCall}
 use Rattle.ucl_board.specs.declared.entry.Entry.{Entry}
 use Rattle.ucl_board.specs.History.{board_of}
-use Rattle.ucl_board.specs.Log.{Look, Swap, First, Second, Target, Match, Enlisted, Enlists, Taken}
+use Rattle.ucl_log.specs.Log.{Look, Swap, First, Second, Target, Match, Enlisted, Enlists, Taken}
 use Rattle.ucl_steps.specs.ClientState.{IsNextOfProtocol}
 use Rattle.ucl_live_board.specs.declared.view.View.{View}
 use Rattle.ucl_live_board.specs.BoardInvariant.{BoardInvariant}

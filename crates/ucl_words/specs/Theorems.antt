@@ -8,7 +8,7 @@ use Rattle.ucl_word.specs.Counts.{GainsOne}
 use Rattle.ucl_board.specs.declared.entry.Entry.{Entry}
 use Rattle.ucl_board.specs.Words.{word_at}
 use Rattle.ucl_board.specs.History.{board_of, IsLegal}
-use Rattle.ucl_board.specs.Log.{enlisted_by, number_of}
+use Rattle.ucl_log.specs.Log.{enlisted_by, number_of}
 use Rattle.ucl_steps.specs.BoardObject.{HasLinearizableCalls}
 use Rattle.ucl_steps.specs.LogRuns.{LeadsToLog}
 use Rattle.ucl_live_board.specs.Numbers.{IsGivenAfter}

@@ -5,7 +5,7 @@ use Rattle.ucl_word.specs.declared.event.Accepted.{Accepted}
 use Rattle.ucl_word.specs.declared.refusal.Refusal.{Refusal}
 use Rattle.ucl_board.specs.declared.entry.Entry.{Entry}
 use Rattle.ucl_board.specs.declared.reading.Reading.{Reading}
-use Rattle.ucl_board.specs.Log.{Access, Taken, history_of, number_of}
+use Rattle.ucl_log.specs.Log.{Access, Taken, history_of, number_of}
 use Rattle.ucl_steps.specs.declared.step.Call.{Call}
 use Rattle.ucl_steps.specs.declared.step.Call.TheVariants as calls
 use Rattle.ucl_steps.specs.declared.trace.Reply.{Reply}

@@ -13,7 +13,7 @@ use Rattle.ucl_steps.specs.Protocol.{report_reply}
 use Rattle.ucl_steps.specs.Trails.{max_loads}
 use Rattle.ucl_live_board.specs.LiveRecords.{LiveReported, LiveRead, LiveSplit, LiveFull, LiveMet}
 use Rattle.ucl_live_board.specs.Passes.{Enlistment}
-use Rattle.ucl_board.specs.Log.{number_of}
+use Rattle.ucl_log.specs.Log.{number_of}
 use Rattle.ucl_live_board.specs.Views.{count_of, first_pass, left_pass, second_pass}
 use Rattle.ucl_live_board.specs.CallSteps.{MeetingSteps}
 use Rattle.ucl_words.specs.WordCalls.{CompletesCall, DoneAsBefore, EnlistTries, KeepsTrail, ReportSteps, ReadingSteps}

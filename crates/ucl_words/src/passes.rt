@@ -1,7 +1,7 @@
 //! The passes of a word board. A pass cannot be copied, and acts by its seat. Its view exists only in proofs.
 
 ghost use Rattle.std.specs.Prelude.{◌≡◌, length};
-ghost use Rattle.ucl_board.specs.Log.{added_by, number_of};
+ghost use Rattle.ucl_log.specs.Log.{added_by, number_of};
 ghost use Rattle.ucl_steps.specs.Protocol.{NoCall};
 ghost use Rattle.ucl_words.specs.WordCalls.{IsConsistent};
 ghost use Rattle.ucl_steps.specs.ClientState.{client_of};

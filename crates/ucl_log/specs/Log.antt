@@ -1,5 +1,5 @@
 -- The log of boards that threads share: all atomic steps, oldest first, but for those that ignore what they find: split, and notes joined.
--- It stands here since the cell board has one too, and does not use the machine of `ucl_steps`.
+-- Both boards have one: the board of words, whose log is a run of the machine of `ucl_steps`, and the cell board, which does not use it.
 -- An access is a load or an exchange of one match word, and a step is any atomic step of a pass; its target is what it is on. A place is an
 -- index of the log. A point is a moment, as the length of the history then.
 use Rattle.std.specs.Prelude.{◌≡◌, ℕ, ◌+◌, ◌==◌, ◌<◌, ◌≤◌, Bool, List, [], ◌∷◌, All, map, filter, length, Option, Some, None}

@@ -11,9 +11,9 @@ use Rattle.std.proofs.lemmas.List.Sums.{fold-append}
 use mathlib.Core.List.{IsPrefix}
 use Rattle.ucl_word.proofs.Sequences.{at_below, at_end, may_none, may_next, may_induction, may_begin, may_last}
 use Rattle.ucl_board.specs.declared.entry.Entry.{Entry}
-use Rattle.ucl_board.specs.Log.{Taken, Logged, logged_by, Log, taken_by, entry_list, added_by, history_of, enlists, enlisted_by, number_by}
-use Rattle.ucl_board.specs.Log.{number_of, access_list, accesses_in, IsLog, Target, Enlists, IsThere, MayBeTaken, MayAdd, MayEnlist}
-use Rattle.ucl_board.specs.Log.{IsLegalStep, HasLegalSteps, LogFacts}
+use Rattle.ucl_log.specs.Log.{Taken, Logged, logged_by, Log, taken_by, entry_list, added_by, history_of, enlists, enlisted_by, number_by}
+use Rattle.ucl_log.specs.Log.{number_of, access_list, accesses_in, IsLog, Target, Enlists, IsThere, MayBeTaken, MayAdd, MayEnlist}
+use Rattle.ucl_log.specs.Log.{IsLegalStep, HasLegalSteps, LogFacts}
 use Rattle.ucl_board.proofs.HistoryTheorems.{at_beginning}
 use Rattle.ucl_board.specs.History.{IsLegal, MayFollow}
 
