@@ -9,7 +9,7 @@ pub use Rattle.std.proofs.Math.Path.{fun_ext}
 pub use Rattle.std.proofs.lemmas.Bool.{and_parts, and_right, cases_Bool, cases_eq, cases_lt, false_from_ne_true, le-leb, le-ltb}
 pub use Rattle.std.proofs.lemmas.Bool.{leb-true, true_from_ne_false}
 pub use Rattle.std.proofs.lemmas.Bool.Decides.{Decides-eqb, nat_tests}
-pub use Rattle.std.proofs.lemmas.Cmp.{alike_right, back_total, int_cmp_total, int_ranked, nat_cmp_total, on_total, then_total, tied_itself}
+pub use Rattle.std.proofs.lemmas.Cmp.{alike_right, back_total, int_cmp_total, int_ranked, nat_cmp_total, nat_eq_equiv, on_total, then_total, tied_itself}
 pub use Rattle.std.proofs.lemmas.Int.{ints}
 pub use Rattle.std.proofs.lemmas.List.{get_or-map, get_or-reverse, get_or-set_other, get_or_default, length-map, length-set, length_push}
 pub use Rattle.std.proofs.lemmas.List.{map-append, map-set, take_more}
@@ -23,12 +23,13 @@ pub use Rattle.std.proofs.lemmas.List.Sorted.{IsPermutation-append_right}
 pub use Rattle.std.proofs.lemmas.List.Sorted.{IsPermutation-cons, IsPermutation-map, IsPermutation-middle, IsPermutation-refl}
 pub use Rattle.std.proofs.lemmas.List.Sorted.{IsPermutation-reverse, IsPermutation-sym, IsPermutation-trans, length_permutation}
 pub use Rattle.std.proofs.lemmas.List.Sorted.{sum_by-IsPermutation}
-pub use Rattle.std.proofs.lemmas.List.Sums.{count_by-le-length, length-filter, sum_by-append, sum_by-cons, sum_by-le, sum_by_push}
+pub use Rattle.std.proofs.lemmas.List.Sums.{count_by-le-length, length-filter, sum_by-append, sum_by-cons, sum_by-le, sum_by-le-sum_by}
+pub use Rattle.std.proofs.lemmas.List.Sums.{sum_by-remove, sum_by_push}
 pub use Rattle.std.proofs.lemmas.Map.Keys.{IsDistinct-IsPermutation}
 pub use Rattle.std.proofs.lemmas.Map.Made.{AllPairs-from_IsDistinct, IsDistinct-from_AllPairs}
 pub use Rattle.std.proofs.lemmas.Map.Views.{Contains-from_any, any-filter_same}
 pub use Rattle.std.specs.Cmp.{IsTotalOrder}
-pub use Rattle.std.specs.List.{AllPairs, cons_option, list_all}
+pub use Rattle.std.specs.List.{AllPairs, cons_option, list_all, remove}
 pub use Rattle.std.specs.List.Sorted.{IsNonDecreasing, IsPermutation}
 pub use Rattle.std.specs.Ordering.{int_cmp, is_eq, is_gt, nat_cmp, ordering_reverse, ordering_then}
 pub use Rattle.std.specs.Prelude.{◌↔◌}
