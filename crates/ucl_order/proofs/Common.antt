@@ -27,7 +27,7 @@ pub use Rattle.std.proofs.lemmas.List.Sums.{count_by-le-length, length-filter, s
 pub use Rattle.std.proofs.lemmas.List.Sums.{sum_by-remove, sum_by_push}
 pub use Rattle.std.proofs.lemmas.Map.Keys.{IsDistinct-IsPermutation}
 pub use Rattle.std.proofs.lemmas.Map.Made.{AllPairs-from_IsDistinct, IsDistinct-from_AllPairs}
-pub use Rattle.std.proofs.lemmas.Map.Views.{Contains-from_any, any-filter_same}
+pub use Rattle.std.proofs.lemmas.Map.Views.{Contains-from_any, any-filter_same, list_any-from_Contains}
 pub use Rattle.std.specs.Cmp.{IsTotalOrder}
 pub use Rattle.std.specs.List.{AllPairs, cons_option, list_all, remove}
 pub use Rattle.std.specs.List.Sorted.{IsNonDecreasing, IsPermutation}
