@@ -108,36 +108,22 @@ all-over (m ∷ ms) pairs none =
           absurd (omega arith)
     ]
 
--- of six matches a club has finished all six just if it has none left to play
-six-left : (ms : List Match) (club : ℕ) → IsSlot club → HasSixEach ms → (played club (finished ms) ≡ 6 → played club (unfinished ms) ≡ 0)
-    × (played club (unfinished ms) ≡ 0 → played club (finished ms) ≡ 6)
-six-left ms club slot six = (
-  (λ e. omega (arith, six club slot, both_parts length_adds club has_finished ms)),
-  (λ e. omega (arith, six club slot, both_parts length_adds club has_finished ms)),
-)
-
 -- all matches are finished just where each club has six finished ones
 pub all_six : (ms : List Match) → All IsPairing ms → HasSixEach ms →
     (((played 1 (finished ms) == 6) && (played 2 (finished ms) == 6)) && (played 3 (finished ms) == 6)) && (played 4 (finished ms) == 6)
     ≡ list_all has_finished ms
 all_six ms pairs six = elim (cases_Bool (list_all has_finished ms)) [
   | inl all ↦
-      let each : (club : ℕ) → IsSlot club → (played club (finished ms) == 6)
-      ≡ true = λ club slot. eq-eqb _ _ ((six-left ms club slot six).1 (none-left ms club all)) in
-      rw (
-        all,
-        each 1 (slots 0 0 (omega arith)),
-        each 2 (slots 1 0 (omega arith)),
-        each 3 (slots 2 0 (omega arith)),
-        each 4
-            (slots 3 0 (omega arith)),
-      )
+      let each : (club : ℕ) → IsSlot club → (played club (finished ms) == 6) ≡ true =
+      λ club slot. eq-eqb _ _ (omega (arith, six club slot, both_parts length_adds club has_finished ms, none-left ms club all)) in
+      rw (all, each 1 (omega arith, omega arith), each 2 (omega arith, omega arith), each 3 (omega arith, omega arith), each 4 (omega arith, omega arith))
   | inr some ↦ rw some (false_from_ne_true _ (λ four.
       let last = and_parts _ _ four in
       let third = and_parts _ _ last.0 in
       let two = and_parts _ _ third.0 in
+      let played_all : (club : ℕ) → IsSlot club → played club (finished ms) ≡ 6 =
+      each_slot (λ c. played c (finished ms) ≡ 6) (eqb-true _ _ two.0) (eqb-true _ _ two.1) (eqb-true _ _ third.1) (eqb-true _ _ last.1) in
       let none : (club : ℕ) → IsSlot club → played club (unfinished ms) ≡ 0 =
-      (λ club slot. (six-left ms club slot six).0 (each_slot (λ c. played c (finished ms) ≡ 6) (eqb-true _ _ two.0) (eqb-true _ _ two.1)
-      (eqb-true _ _ third.1) (eqb-true _ _ last.1) club slot)) in
+      λ club slot. omega (arith, six club slot, both_parts length_adds club has_finished ms, played_all club slot) in
       true≢false (sym (all-over ms pairs none) ∙ some)))
 ]
