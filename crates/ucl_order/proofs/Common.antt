@@ -1,7 +1,8 @@
 -- The words and lemmas from elsewhere that the proofs of this crate share.
 pub use Rattle.std.proofs.Common.{All, Bool, Contains, Equal, Greater, Less, List, None, Option, Ordering, Some, [], ap, append-nil, arith}
 pub use Rattle.std.proofs.Common.{cond, count_by, eq-eqb, eqb-true, false, filter, flat_map, get_or, if◌then◌else◌, inl, inr, length, map}
-pub use Rattle.std.proofs.Common.{length-append, nat_le, nat_lt, ne_eqb, not, pos, refl, reverse, rules, set, slice_index, slice_index_or, subst, suc}
+pub use Rattle.std.proofs.Common.{length-append}
+pub use Rattle.std.proofs.Common.{nat_le, nat_lt, ne_eqb, not, pos, refl, reverse, rules, set, slice_index, slice_index_or, subst, suc}
 pub use Rattle.std.proofs.Common.{sum_by, sym, take, true, true≢false, zero, ℕ, ◌%◌, ◌&&◌, ◌*◌, ◌++◌, ◌+◌, ◌-ℤ◌, ◌-◌, ◌<ℤ◌, ◌<◌, ◌==◌, ◌^◌}
 pub use Rattle.std.proofs.Common.{◌||◌, ◌∙◌, ◌∷◌, ◌≡◌, ◌≢◌, ◌≤◌, ◌⊎◌}
 pub use Rattle.std.proofs.Math.Bool.{and-true}
@@ -9,7 +10,8 @@ pub use Rattle.std.proofs.Math.Path.{fun_ext}
 pub use Rattle.std.proofs.lemmas.Bool.{and_parts, and_right, cases_Bool, cases_eq, cases_lt, false_from_ne_true, le-leb, le-ltb}
 pub use Rattle.std.proofs.lemmas.Bool.{leb-true, true_from_ne_false}
 pub use Rattle.std.proofs.lemmas.Bool.Decides.{Decides-eqb, nat_tests}
-pub use Rattle.std.proofs.lemmas.Cmp.{alike_right, back_total, int_cmp_total, int_ranked, nat_cmp_total, nat_eq_equiv, on_total, then_total, tied_itself}
+pub use Rattle.std.proofs.lemmas.Cmp.{alike_right, back_total, int_cmp_total, int_ranked, nat_cmp_total, nat_eq_equiv, on_total}
+pub use Rattle.std.proofs.lemmas.Cmp.{then_total, tied_itself}
 pub use Rattle.std.proofs.lemmas.Int.{ints}
 pub use Rattle.std.proofs.lemmas.List.{get_or-map, get_or-reverse, get_or-set_other, get_or_default, length-map, length-set, length_push}
 pub use Rattle.std.proofs.lemmas.List.{map-append, map-set, take_more}

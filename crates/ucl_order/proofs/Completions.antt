@@ -203,7 +203,8 @@ module _ (profile : Profile) (board later : List ℕ) (done : IsCompletion board
       let rival : ℕ → Bool = λ other. not (other == club) && nat_le (sure_points (matches_of board) club) (reach (matches_of board) other) in
       let fewer : count_by (reaches key club) all_clubs ≤ count_by rival all_clubs =
       count-le (reaches key club) rival all_clubs
-      (λ o. reach_weaker (key club) (key o) (sure_points (matches_of board) club) (reach (matches_of board) o) (not (o == club)) (low club) (high o)) in
+      (λ o. reach_weaker (key club) (key o) (sure_points (matches_of board) club) (reach (matches_of board) o) (not (o == club))
+      (low club) (high o)) in
       let same : count_by (reaches key club) (order_of profile (started_of later) roster) ≡ count_by (reaches key club) all_clubs =
       sum_by-IsPermutation _ _ _ (order_permutes profile (started_of later) roster) in
       let long : length (order_of profile (started_of later) roster) ≡ 4 = length_permutation _ _ (order_permutes profile (started_of later) roster) in
@@ -218,7 +219,8 @@ module _ (profile : Profile) (board later : List ℕ) (done : IsCompletion board
       let gone : ℕ → Bool = λ other. not (other == club) && nat_lt (reach (matches_of board) club) (sure_points (matches_of board) other) in
       let more : count_by gone all_clubs ≤ count_by (passes key club) all_clubs =
       count-le gone (passes key club) all_clubs
-      (λ o. pass_stronger (key club) (key o) (reach (matches_of board) club) (sure_points (matches_of board) o) (not (o == club)) (high club) (low o)) in
+      (λ o. pass_stronger (key club) (key o) (reach (matches_of board) club) (sure_points (matches_of board) o) (not (o == club))
+      (high club) (low o)) in
       let same : count_by (passes key club) (order_of profile (started_of later) roster) ≡ count_by (passes key club) all_clubs =
       sum_by-IsPermutation _ _ _ (order_permutes profile (started_of later) roster) in
       let long : length (order_of profile (started_of later) roster) ≡ 4 = length_permutation _ _ (order_permutes profile (started_of later) roster) in

@@ -116,7 +116,13 @@ all_six ms pairs six = elim (cases_Bool (list_all has_finished ms)) [
   | inl all ↦
       let each : (club : ℕ) → IsSlot club → (played club (finished ms) == 6) ≡ true =
       λ club slot. eq-eqb _ _ (omega (arith, six club slot, both_parts length_adds club has_finished ms, none-left ms club all)) in
-      rw (all, each 1 (omega arith, omega arith), each 2 (omega arith, omega arith), each 3 (omega arith, omega arith), each 4 (omega arith, omega arith))
+      rw (
+        all,
+        each 1 (slots 0 0 (omega arith)),
+        each 2 (slots 1 0 (omega arith)),
+        each 3 (slots 2 0 (omega arith)),
+        each 4 (slots 3 0 (omega arith)),
+      )
   | inr some ↦ rw some (false_from_ne_true _ (λ four.
       let last = and_parts _ _ four in
       let third = and_parts _ _ last.0 in
