@@ -27,38 +27,17 @@ coefficient_good members i m roster within =
     (and_parts (is_name (slice_index_or members i m).name.items) _ (member_good members i m roster within)).1 in
     grind (arith, nat_tests)
 
--- a list of length 4 is the list of its elements at the places 0 to 3
-pub four-places : {X : Type 0} → (xs : List X) (a b c d : X) → length xs ≡ 4
-    → a ≡ slice_index_or xs 0 a → b ≡ slice_index_or xs 1 b → c ≡ slice_index_or xs 2 c → d ≡ slice_index_or xs 3 d
-    → xs ≡ a ∷ b ∷ c ∷ d ∷ []
-four-places xs a b c d n p q r s =
-    by_four (λ xs. a ≡ slice_index_or xs 0 a → b ≡ slice_index_or xs 1 b → c ≡ slice_index_or xs 2 c → d ≡ slice_index_or xs 3 d
-    → xs ≡ a ∷ b ∷ c ∷ d ∷ [])
-    (λ w x y z p q r s. cc) xs n p q r s
-
--- the club has a valid name and coefficient, and the member, which is a club as a roster of the code keeps it, has the same ones
-pub record IsTaken (club : NamedClub) (member : Member) : Type 0 where
-  pub good : IsClub club
-  pub same : member_seen member ≡ club
-
--- if four clubs are valid, and four members of a roster have their names and coefficients, the members are these clubs, and no slot is bad
-pub four-taken : (a b c d : NamedClub) (w x y z : Member) → IsTaken a w → IsTaken b x → IsTaken c y → IsTaken d z
-    → (members_seen (w ∷ x ∷ y ∷ z ∷ []) ≡ a ∷ b ∷ c ∷ d ∷ []) × (bad_slot (a ∷ b ∷ c ∷ d ∷ []) ≡ None)
+-- if four clubs are valid, and four members of a roster have the same names and coefficients, the members are these clubs, and no slot is
+-- bad; `seen` gives the name and the coefficient of a club, as the code has it
+pub four_taken : {X : Type 0} (seen : X → NamedClub) (clubs : List X) (p q r s : X) (w x y z : Member) → length clubs ≡ 4
+    → IsClub (seen (slice_index_or clubs 0 p)) × (member_seen w ≡ seen (slice_index_or clubs 0 p))
+    → IsClub (seen (slice_index_or clubs 1 q)) × (member_seen x ≡ seen (slice_index_or clubs 1 q))
+    → IsClub (seen (slice_index_or clubs 2 r)) × (member_seen y ≡ seen (slice_index_or clubs 2 r))
+    → IsClub (seen (slice_index_or clubs 3 s)) × (member_seen z ≡ seen (slice_index_or clubs 3 s))
+    → (members_seen (w ∷ x ∷ y ∷ z ∷ []) ≡ map seen clubs) × (bad_slot (map seen clubs) ≡ None)
 unfolding bad_slot_from
-four-taken a b c d w x y z p q r s = (rw (p.same, q.same, r.same, s.same), rw (p.good, q.good, r.good, s.good))
-
--- if four clubs, whose names are borrowed, are valid, and four members of a roster have the same names and coefficients, the members are
--- these clubs, and no slot is bad
-pub four-lent : (clubs : List LentClub) (p q r s : LentClub) (w x y z : Member) → length clubs ≡ 4
-    → IsClub (club_lent (slice_index_or clubs 0 p)) × (member_seen w ≡ club_lent (slice_index_or clubs 0 p))
-    → IsClub (club_lent (slice_index_or clubs 1 q)) × (member_seen x ≡ club_lent (slice_index_or clubs 1 q))
-    → IsClub (club_lent (slice_index_or clubs 2 r)) × (member_seen y ≡ club_lent (slice_index_or clubs 2 r))
-    → IsClub (club_lent (slice_index_or clubs 3 s)) × (member_seen z ≡ club_lent (slice_index_or clubs 3 s))
-    → (members_seen (w ∷ x ∷ y ∷ z ∷ []) ≡ map club_lent clubs) × (bad_slot (map club_lent clubs) ≡ None)
-four-lent (e ∷ f ∷ g ∷ h ∷ []) p q r s w x y z n a b c d =
-    four-taken (club_lent e) (club_lent f) (club_lent g) (club_lent h) w x y z
-    (record { good = a.0; same = a.1 }) (record { good = b.0; same = b.1 }) (record { good = c.0; same = c.1 }) (record { good = d.0; same = d.1 })
-four-lent clubs p q r s w x y z n a b c d = absurd (omega arith)
+four_taken seen (e ∷ f ∷ g ∷ h ∷ []) p q r s w x y z n a b c d = (rw (a.1, b.1, c.1, d.1), rw (a.0, b.0, c.0, d.0))
+four_taken seen clubs p q r s w x y z n a b c d = absurd (omega arith)
 
 -- if no slot of a list of clubs is bad, each club has a valid name and a valid coefficient
 clubs-good : (slot : ℕ) (clubs : List NamedClub) → bad_slot_from slot clubs ≡ None → All IsClub clubs

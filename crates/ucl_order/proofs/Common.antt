@@ -1,6 +1,7 @@
 -- The words and lemmas from elsewhere that the proofs of this crate share.
 pub use Rattle.std.proofs.Common.{All, Bool, Contains, Equal, Greater, Less, List, None, Option, Ordering, Some, [], ap, append-nil, arith}
 pub use Rattle.std.proofs.Common.{cond, count_by, eq-eqb, eqb-true, false, filter, flat_map, get_or, if◌then◌else◌, inl, inr, length, map}
+pub use Rattle.std.proofs.Common.{length-append}
 pub use Rattle.std.proofs.Common.{nat_le, nat_lt, ne_eqb, not, pos, refl, reverse, rules, set, slice_index, slice_index_or, subst, suc}
 pub use Rattle.std.proofs.Common.{sum_by, sym, take, true, true≢false, zero, ℕ, ◌%◌, ◌&&◌, ◌*◌, ◌++◌, ◌+◌, ◌-ℤ◌, ◌-◌, ◌<ℤ◌, ◌<◌, ◌==◌, ◌^◌}
 pub use Rattle.std.proofs.Common.{◌||◌, ◌∙◌, ◌∷◌, ◌≡◌, ◌≢◌, ◌≤◌, ◌⊎◌}
@@ -9,13 +10,14 @@ pub use Rattle.std.proofs.Math.Path.{fun_ext}
 pub use Rattle.std.proofs.lemmas.Bool.{and_parts, and_right, cases_Bool, cases_eq, cases_lt, false_from_ne_true, le-leb, le-ltb}
 pub use Rattle.std.proofs.lemmas.Bool.{leb-true, true_from_ne_false}
 pub use Rattle.std.proofs.lemmas.Bool.Decides.{Decides-eqb, nat_tests}
-pub use Rattle.std.proofs.lemmas.Cmp.{alike_right, back_total, int_cmp_total, int_ranked, nat_cmp_total, on_total, then_total, tied_itself}
+pub use Rattle.std.proofs.lemmas.Cmp.{alike_right, back_total, int_cmp_total, int_ranked, nat_cmp_total, nat_eq_equiv, on_total}
+pub use Rattle.std.proofs.lemmas.Cmp.{then_total, tied_itself}
 pub use Rattle.std.proofs.lemmas.Int.{ints}
 pub use Rattle.std.proofs.lemmas.List.{get_or-map, get_or-reverse, get_or-set_other, get_or_default, length-map, length-set, length_push}
 pub use Rattle.std.proofs.lemmas.List.{map-append, map-set, take_more}
 pub use Rattle.std.proofs.lemmas.List.Elements.{All-append, All-cons, All-contains, All-contains_itself, All-filter, All-get_or, All-head}
 pub use Rattle.std.proofs.lemmas.List.Elements.{All-map, All-nil, All-push, All-same, All-set, All-tail, All-weaker, filter-append}
-pub use Rattle.std.proofs.lemmas.List.Elements.{filter_map-append, filter_passes}
+pub use Rattle.std.proofs.lemmas.List.Elements.{filter_agree, filter_map-append, filter_passes}
 pub use Rattle.std.proofs.lemmas.List.Folds.{list_any_at}
 pub use Rattle.std.proofs.lemmas.List.Kept.{AllPairs-cons, AllPairs-filter}
 pub use Rattle.std.proofs.lemmas.List.Sorted.{All-permutation, Contains-permutation, IsNonDecreasingBy-from_sort, IsPermutation-append}
@@ -23,12 +25,13 @@ pub use Rattle.std.proofs.lemmas.List.Sorted.{IsPermutation-append_right}
 pub use Rattle.std.proofs.lemmas.List.Sorted.{IsPermutation-cons, IsPermutation-map, IsPermutation-middle, IsPermutation-refl}
 pub use Rattle.std.proofs.lemmas.List.Sorted.{IsPermutation-reverse, IsPermutation-sym, IsPermutation-trans, length_permutation}
 pub use Rattle.std.proofs.lemmas.List.Sorted.{sum_by-IsPermutation}
-pub use Rattle.std.proofs.lemmas.List.Sums.{count_by-le-length, length-filter, sum_by-cons, sum_by-le, sum_by_push}
+pub use Rattle.std.proofs.lemmas.List.Sums.{count_by-le-length, length-filter, sum_by-append, sum_by-cons, sum_by-le, sum_by-le-sum_by}
+pub use Rattle.std.proofs.lemmas.List.Sums.{sum_by-remove, sum_by_push}
 pub use Rattle.std.proofs.lemmas.Map.Keys.{IsDistinct-IsPermutation}
 pub use Rattle.std.proofs.lemmas.Map.Made.{AllPairs-from_IsDistinct, IsDistinct-from_AllPairs}
-pub use Rattle.std.proofs.lemmas.Map.Views.{Contains-from_any, any-filter_same}
+pub use Rattle.std.proofs.lemmas.Map.Views.{Contains-from_any, any-filter_same, list_any-from_Contains}
 pub use Rattle.std.specs.Cmp.{IsTotalOrder}
-pub use Rattle.std.specs.List.{AllPairs, cons_option, list_all}
+pub use Rattle.std.specs.List.{AllPairs, cons_option, list_all, remove}
 pub use Rattle.std.specs.List.Sorted.{IsNonDecreasing, IsPermutation}
 pub use Rattle.std.specs.Ordering.{int_cmp, is_eq, is_gt, nat_cmp, ordering_reverse, ordering_then}
 pub use Rattle.std.specs.Prelude.{◌↔◌}

@@ -4,7 +4,7 @@ use Rattle.ucl_order.proofs.Common.{Contains-permutation, Finished, GoesThrough,
 use Rattle.ucl_order.proofs.Common.{MarkIsCertain, Match, Minus, NamedClub, None, Plus, Profile, Row, Some, StandsAbove, State, []}
 use Rattle.ucl_order.proofs.Common.{all_clubs, and_parts, ap, arith, cases_Bool, count_by, early_mark, eq-eqb, eqb-true, false}
 use Rattle.ucl_order.proofs.Common.{false_from_ne_true, final_mark, finished, fixture_of, game_at, get_or, has_finished, higher_in_tie}
-use Rattle.ucl_order.proofs.Common.{if◌then◌else◌}
+use Rattle.ucl_order.proofs.Common.{cons_option, if◌then◌else◌}
 use Rattle.ucl_order.proofs.Common.{inl, inr, is_finished, is_in, leb-true, length, length_permutation, list_all, list_any_at, map, mark_by}
 use Rattle.ucl_order.proofs.Common.{mark_of, match_at, match_numbers, matches_of, nat_le, nat_lt, nat_tests, not, order_of, out_of_reach}
 use Rattle.ucl_order.proofs.Common.{played, points, points_higher, reach, refl, rivals, row_of, row_with, rows_of, seen_by, slice_index}
@@ -13,7 +13,7 @@ use Rattle.ucl_order.proofs.Common.{◌-◌, ◌==◌, ◌∙◌, ◌∷◌, ◌
 use Rattle.ucl_order.proofs.Classes.{order_permutes, count-le}
 use Rattle.ucl_order.proofs.TieBreaks.{order-pairs}
 use Rattle.ucl_order.proofs.Slots.{by_four, a_club, are_matches, all-four}
-use Rattle.ucl_order.proofs.Limits.{plays, gains, gains-le, played-cons, points-cons}
+use Rattle.ucl_order.proofs.Limits.{in_front, length_adds, points-le, points_adds}
 
 -- the key never rises along the list: no later club has a greater key than an earlier one
 abbrev pub Falls : (ℕ → ℕ) → List ℕ → Type 0
@@ -86,12 +86,12 @@ record Between (club : ℕ) (games board later : List ℕ) : Type 0 where
 
 -- a club plays in a match once or not at all, and this does not depend on the goals and cards of the match
 plays_alike : (at_home away : Bool) (h v h' v' : Appearance)
-    → plays (if at_home then Some h else (if away then Some v else None)) ≡ plays (if at_home then Some h' else (if away then Some v' else None))
-unfolding plays
+    → length (cons_option (if at_home then Some h else (if away then Some v else None)) [])
+    ≡ length (cons_option (if at_home then Some h' else (if away then Some v' else None)) [])
 plays_alike at_home away h v h' v' = search arith
 
 -- a club plays in a match on one board exactly if it plays in the match of the same number on another
-plays_same : (club game : ℕ) (board later : List ℕ) → plays (seen_by club (match_at later game)) ≡ plays (seen_by club (match_at board game))
+plays_same : (club game : ℕ) (board later : List ℕ) → played club (match_at later game ∷ []) ≡ played club (match_at board game ∷ [])
 plays_same club game board later = plays_alike ((fixture_of game).home == club) ((fixture_of game).away == club) _ _ _ _
 
 -- a match whose record is the same on two boards is the same match
@@ -111,16 +111,17 @@ between club (game ∷ games) board later are done =
     let here : IsMatch game = All-head IsMatch game games are in
     let rest : Between club games board later = between club games board later (All-tail IsMatch game games are) done in
     let ended = done.ended game here in
-    let end_points : points club (l ∷ started end) ≡ gains (seen_by club l) + points club (started end) = points-cons club l (started end) in
+    let end_points = in_front points_adds club l (started end) in
     elim (cases_Bool (has_finished m)) [
       | inl over ↦
-          let worth : gains (seen_by club l) ≡ gains (seen_by club m) = ap (λ x. gains (seen_by club x)) (match_kept board later game (done.kept game here (is_done _ over))) in
-          let now_points : points club (m ∷ finished now) ≡ gains (seen_by club m) + points club (finished now) = points-cons club m (finished now) in
+          let same : l ≡ m = match_kept board later game (done.kept game here (is_done _ over)) in
+          let worth : points club (l ∷ []) ≡ points club (m ∷ []) = ap (λ (x : Match). points club (x ∷ [])) same in
+          let now_points = in_front points_adds club m (finished now) in
           record { low = rw (over, ended) (omega arith); high = rw (over, ended) (omega arith) }
       | inr open_now ↦
-          let most : gains (seen_by club l) ≤ 3 * plays (seen_by club l) = gains-le (seen_by club l) in
-          let alike : plays (seen_by club l) ≡ plays (seen_by club m) = plays_same club game board later in
-          let left : played club (m ∷ unfinished now) ≡ plays (seen_by club m) + played club (unfinished now) = played-cons club m (unfinished now) in
+          let most : points club (l ∷ []) ≤ 3 * played club (l ∷ []) = points-le club (l ∷ []) in
+          let alike : played club (l ∷ []) ≡ played club (m ∷ []) = plays_same club game board later in
+          let left = in_front length_adds club m (unfinished now) in
           record { low = rw (open_now, ended) (omega arith); high = rw (open_now, ended) (omega arith) }
     ]
 
@@ -202,8 +203,8 @@ module _ (profile : Profile) (board later : List ℕ) (done : IsCompletion board
       let rival : ℕ → Bool = λ other. not (other == club) && nat_le (sure_points (matches_of board) club) (reach (matches_of board) other) in
       let fewer : count_by (reaches key club) all_clubs ≤ count_by rival all_clubs =
       count-le (reaches key club) rival all_clubs
-      (λ k d h. reach_weaker (key club) (key (get_or all_clubs k d)) (sure_points (matches_of board) club)
-      (reach (matches_of board) (get_or all_clubs k d)) (not (get_or all_clubs k d == club)) (low club) (high (get_or all_clubs k d))) in
+      (λ o. reach_weaker (key club) (key o) (sure_points (matches_of board) club) (reach (matches_of board) o) (not (o == club))
+      (low club) (high o)) in
       let same : count_by (reaches key club) (order_of profile (started_of later) roster) ≡ count_by (reaches key club) all_clubs =
       sum_by-IsPermutation _ _ _ (order_permutes profile (started_of later) roster) in
       let long : length (order_of profile (started_of later) roster) ≡ 4 = length_permutation _ _ (order_permutes profile (started_of later) roster) in
@@ -218,8 +219,8 @@ module _ (profile : Profile) (board later : List ℕ) (done : IsCompletion board
       let gone : ℕ → Bool = λ other. not (other == club) && nat_lt (reach (matches_of board) club) (sure_points (matches_of board) other) in
       let more : count_by gone all_clubs ≤ count_by (passes key club) all_clubs =
       count-le gone (passes key club) all_clubs
-      (λ k d h. pass_stronger (key club) (key (get_or all_clubs k d)) (reach (matches_of board) club)
-      (sure_points (matches_of board) (get_or all_clubs k d)) (not (get_or all_clubs k d == club)) (high club) (low (get_or all_clubs k d))) in
+      (λ o. pass_stronger (key club) (key o) (reach (matches_of board) club) (sure_points (matches_of board) o) (not (o == club))
+      (high club) (low o)) in
       let same : count_by (passes key club) (order_of profile (started_of later) roster) ≡ count_by (passes key club) all_clubs =
       sum_by-IsPermutation _ _ _ (order_permutes profile (started_of later) roster) in
       let long : length (order_of profile (started_of later) roster) ≡ 4 = length_permutation _ _ (order_permutes profile (started_of later) roster) in

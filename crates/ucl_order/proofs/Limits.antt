@@ -8,70 +8,61 @@ use Rattle.ucl_order.proofs.Common.{if◌then◌else◌, is_drawn, is_in, is_los
 use Rattle.ucl_order.proofs.Common.{matches_of, nat_tests, order_of, played, points, refl, results_of, results_of_clubs, row_by, row_of}
 use Rattle.ucl_order.proofs.Common.{rows_of, seen_by, slice_index, started_of, sum_by-cons, sum_by-le, tied_results, tied_with, totals}
 use Rattle.ucl_order.proofs.Common.{true, wins, ℕ, ◌&&◌, ◌*◌, ◌+◌, ◌-◌, ◌==◌, ◌∷◌, ◌≡◌, ◌≤◌}
+use Rattle.ucl_order.proofs.Common.{ap, filter-append, filter_map-append, length-append, sum_by, sum_by-append, ◌++◌, ◌∙◌}
 use Rattle.ucl_order.proofs.KeysFit.{FitsKeys}
 use Rattle.ucl_order.proofs.Classes.{order_permutes}
 use Rattle.ucl_order.proofs.Slots.{all-four, pairings, slots}
 
--- how many matches a club has by one match: 1 if it plays in it, else 0
-unfoldable pub plays : Option Appearance → ℕ
-plays None = 0
-plays (Some a) = 1
+-- a number of a list of appearances that adds up: of two lists, one after the other, it is the sum
+pub record AddsUp (g : List Appearance → ℕ) : Type 0 where
+  pub more : (xs ys : List Appearance) → g (xs ++ ys) ≡ g xs + g ys
 
--- how many points a club has by one match
-unfoldable pub gains : Option Appearance → ℕ
-gains None = 0
-gains (Some a) = 3 * cond (is_won a) 1 0 + cond (is_drawn a) 1 0
+pub length_adds : AddsUp (λ games. length games)
+length_adds = record { more = λ xs ys. length-append xs ys }
 
--- with one appearance in front, if there is one, a club has played one match more
-played_one : (o : Option Appearance) (games : List Appearance) → length (cons_option o games) ≡ plays o + length games
-unfolding plays
-played_one o games = search arith
+pub points_adds : AddsUp (λ games. 3 * count_by is_won games + count_by is_drawn games)
+points_adds = record {
+  more = λ xs ys. omega (arith, sum_by-append (λ a. cond (is_won a) 1 0) xs ys, sum_by-append (λ a. cond (is_drawn a) 1 0) xs ys);
+}
 
--- with one match in front a club has played as many more as it plays of this match
-pub played-cons : (club : ℕ) (m : Match) (ms : List Match) → played club (m ∷ ms) ≡ plays (seen_by club m) + played club ms
-played-cons club m ms = played_one (seen_by club m) (appearances club ms)
+pub sum_adds : (f : Appearance → ℕ) → AddsUp (λ games. sum_by f games)
+sum_adds f = record { more = sum_by-append f }
 
--- with one appearance in front, if there is one, a club has so many points more as the appearance gives
-points_one : (o : Option Appearance) (games : List Appearance) →
-    3 * count_by is_won (cons_option o games) + count_by is_drawn (cons_option o games) ≡ gains o + (3 * count_by is_won games + count_by is_drawn games)
-unfolding gains
-points_one None games = omega arith
-points_one (Some a) games = omega (arith, sum_by-cons (λ x. cond (is_won x) 1 0) a games, sum_by-cons (λ x. cond (is_drawn x) 1 0) a games)
+-- what adds up does so over away matches
+pub away_adds : {g : List Appearance → ℕ} → AddsUp g → AddsUp (λ games. g (filter (λ a. a.is_away) games))
+away_adds {g = g} adds = record { more = λ xs ys. ap g (filter-append (λ (a : Appearance). a.is_away) xs ys) ∙ adds.more _ _ }
 
--- with one match in front a club has so many points more as this match gives it
-pub points-cons : (club : ℕ) (m : Match) (ms : List Match) → points club (m ∷ ms) ≡ gains (seen_by club m) + points club ms
-points-cons club m ms = points_one (seen_by club m) (appearances club ms)
+-- what adds up over the appearances of a club
+module _ {g : List Appearance → ℕ} (adds : AddsUp g) (club : ℕ) where
+  -- with one match in front it is so much more as in this match alone
+  pub in_front : (m : Match) (ms : List Match) → g (appearances club (m ∷ ms)) ≡ g (appearances club (m ∷ [])) + g (appearances club ms)
+  in_front m ms = ap g (filter_map-append (seen_by club) (m ∷ []) ms) ∙ adds.more (appearances club (m ∷ [])) (appearances club ms)
 
--- a win or a draw, but not both, gives three points at most
-three_at_most : (won drawn : Bool) → (drawn ≡ true → won ≡ false) → 3 * cond won 1 0 + cond drawn 1 0 ≤ 3
-three_at_most won drawn h = search (arith, h)
+  -- in the matches that pass a test and in the others it is together what it is in all
+  pub both_parts : (p : Match → Bool) (ms : List Match)
+      → g (appearances club (filter p ms)) + g (appearances club (filter (λ m. not (p m)) ms)) ≡ g (appearances club ms)
+  both_parts p [] = omega (arith, adds.more [] [])
+  both_parts p (m ∷ ms) =
+      search (arith, both_parts p ms, in_front m ms, in_front m (filter p ms), in_front m (filter (λ m. not (p m)) ms))
 
 -- a match is worth three points at most
-pub gains-le : (o : Option Appearance) → gains o ≤ 3 * plays o
-unfolding gains plays
-gains-le None = omega arith
-gains-le (Some a) = three_at_most (is_won a) (is_drawn a) (λ e. grind (arith, nat_tests))
+three_at_most : (a : Appearance) → 3 * cond (is_won a) 1 0 + cond (is_drawn a) 1 0 ≤ 3
+three_at_most a = grind (arith, nat_tests)
+
+-- appearances are worth three points each at most
+three_each : (games : List Appearance) → 3 * count_by is_won games + count_by is_drawn games ≤ 3 * length games
+three_each [] = omega arith
+three_each (a ∷ games) = omega (
+  arith,
+  sum_by-cons (λ a. cond (is_won a) 1 0) a games,
+  sum_by-cons (λ a. cond (is_drawn a) 1 0) a games,
+  three_at_most a,
+  three_each games,
+)
 
 -- a club has at most three points for each match that it played
 pub points-le : (club : ℕ) (ms : List Match) → points club ms ≤ 3 * played club ms
-points-le club [] = omega arith
-points-le club (m ∷ ms) = omega (arith, played-cons club m ms, points-cons club m ms, gains-le (seen_by club m), points-le club ms)
-
--- if `f` adds up a part for each match, it is no more for those of the matches that pass a test than for all
-pub filter-less : (f : List Match → ℕ) (part : Match → ℕ) → ((m : Match) (ms : List Match) → f (m ∷ ms) ≡ part m + f ms)
-    → (p : Match → Bool) (ms : List Match) → f (filter p ms) ≤ f ms
-filter-less f part more p [] = omega arith
-filter-less f part more p (m ∷ ms) = search (arith, filter-less f part more p ms, more m ms, more m (filter p ms))
-
--- a club plays in no more of some of the matches than of all
-pub played-filter : (p : Match → Bool) (club : ℕ) (ms : List Match) → played club (filter p ms) ≤ played club ms
-played-filter p club ms = filter-less (played club) (λ m. plays (seen_by club m)) (played-cons club) p ms
-
--- a club plays in so many of the matches that pass a test, and so many of the others, as of all
-pub played-parts : (p : Match → Bool) (club : ℕ) (ms : List Match) → played club (filter p ms) + played club (filter (λ m. not (p m)) ms) ≡ played club ms
-played-parts p club [] = refl
-played-parts p club (m ∷ ms) =
-    search (arith, played-parts p club ms, played-cons club m ms, played-cons club m (filter p ms), played-cons club m (filter (λ m. not (p m)) ms))
+points-le club ms = three_each (appearances club ms)
 
 -- each club plays six of the matches of a board
 pub six : (board : List ℕ) (club : ℕ) → IsSlot club → played club (matches_of board) ≡ 6
@@ -105,24 +96,6 @@ pub all_few : (club : ℕ) (ms : List Match) → All HasScore ms → All AreFew 
 all_few club [] h = All-nil AreFew
 all_few club (m ∷ ms) h =
     few_one (seen_by club m) (appearances club ms) (λ a e. seen_few club m a (All-head HasScore m ms h) e) (all_few club ms (All-tail HasScore m ms h))
-
--- how many away matches a club has by one match
-unfoldable visits : Option Appearance → ℕ
-visits None = 0
-visits (Some a) = cond a.is_away 1 0
-
--- with one appearance in front, if there is one, a club has one away match more if this appearance is away
-visits_one : (o : Option Appearance) (games : List Appearance) → length (filter (λ a. a.is_away) (cons_option o games)) ≡ visits o + length (filter (λ a. a.is_away) games)
-unfolding visits
-visits_one o games = search arith
-
--- with one match in front a club has an away match more if it plays this one away
-visits-cons : (club : ℕ) (m : Match) (ms : List Match) → length (away_matches club (m ∷ ms)) ≡ visits (seen_by club m) + length (away_matches club ms)
-visits-cons club m ms = visits_one (seen_by club m) (appearances club ms)
-
--- among some of the matches a club has no more away matches than among all
-visits-filter : (p : Match → Bool) (club : ℕ) (ms : List Match) → length (away_matches club (filter p ms)) ≤ length (away_matches club ms)
-visits-filter p club ms = filter-less (λ l. length (away_matches club l)) (λ m. visits (seen_by club m)) (visits-cons club) p ms
 
 -- each club has three away matches on a board
 three : (board : List ℕ) (club : ℕ) → IsSlot club → length (away_matches club (matches_of board)) ≡ 3
@@ -170,8 +143,8 @@ group_filter p ms group = record {
   few = omega (arith, group.few, length-filter p ms, count_by-le-length p ms);
   pairings = All-filter p IsPairing ms group.pairings;
   scores = All-filter p HasScore ms group.scores;
-  six = λ club slot. omega (arith, group.six club slot, played-filter p club ms);
-  three_away = λ club slot. omega (arith, group.three_away club slot, visits-filter p club ms);
+  six = λ club slot. omega (arith, group.six club slot, both_parts length_adds club p ms);
+  three_away = λ club slot. omega (arith, group.three_away club slot, both_parts (away_adds length_adds) club p ms);
 }
 
 -- what each club has done in them fits the fields of the keys, also among its tied clubs

@@ -8,7 +8,9 @@ use Rattle.ucl_order.proofs.Common.{has_finished, has_started, under_way, inl, i
 use Rattle.ucl_order.proofs.Common.{is_under_way, is_lost, is_won, length, list_all, not, played, refl, results_of, results_of_clubs}
 use Rattle.ucl_order.proofs.Common.{seen_by, set}
 use Rattle.ucl_order.proofs.Common.{sum_by, sum_by-cons, sym, totals, true, true≢false, unfinished, ℕ, ◌&&◌, ◌++◌, ◌+◌, ◌==◌, ◌∙◌, ◌∷◌, ◌≡◌}
-use Rattle.ucl_order.proofs.Limits.{played-cons, played-parts, plays}
+use Rattle.ucl_order.proofs.Common.{filter_agree}
+use Rattle.ucl_order.proofs.Limits.{AddsUp, away_adds, both_parts, in_front, length_adds, sum_adds}
+use Rattle.ucl_order.proofs.Rounds.{filter-twice}
 use Rattle.ucl_order.proofs.Slots.{slots}
 
 -- One match more at the end. --
@@ -52,84 +54,37 @@ together a b = record {
 
 -- Those in play and those that are finished are all that have begun. --
 
--- the number of appearances, with one in front if there is one, is 1 or 0 for it plus the number of the others
-length_one : (o : Option Appearance) (games : List Appearance) → length (cons_option o games) ≡ length (cons_option o []) + length games
-length_one None games = omega arith
-length_one (Some a) games = omega arith
+-- of the matches that have begun the finished ones are all that are finished
+ended : (ms : List Match) → filter has_finished (filter has_started ms) ≡ filter has_finished ms
+ended ms =
+    filter-twice has_started has_finished ms ∙ filter_agree (λ m. has_started m && has_finished m) has_finished (λ m. search arith) ms
 
--- a sum over appearances with one in front, if there is one, is its part plus the sum over the others
-sum_one : (f : Appearance → ℕ) (o : Option Appearance) (games : List Appearance) → sum_by f (cons_option o games)
-    ≡ sum_by f (cons_option o []) + sum_by f games
-sum_one f None games = omega arith
-sum_one f (Some a) games = omega (arith, sum_by-cons f a games, sum_by-cons f a [])
-
--- a sum over appearances, with one in front only if `away`, is its part, 0 if it is left out, plus the sum over the others
-away_at : (away : Bool) (f : Appearance → ℕ) (a : Appearance) (games : List Appearance) → sum_by f (cond away (a ∷ games) games)
-    ≡ sum_by f (cond away (a ∷ []) []) + sum_by f games
-away_at true f a games = sum_one f (Some a) games
-away_at false f a games = omega arith
-
--- a sum over away appearances, with one in front if there is one and it is away, is its part plus the sum over the others
-away_one : (f : Appearance → ℕ) (o : Option Appearance) (games : List Appearance) →
-    sum_by f (filter (λ a. a.is_away) (cons_option o games))
-    ≡ sum_by f (filter (λ a. a.is_away) (cons_option o [])) + sum_by f (filter (λ a. a.is_away) games)
-away_one f None games = omega arith
-away_one f (Some a) games = away_at a.is_away f a (filter (λ a. a.is_away) games)
-
--- the totals of appearances with one in front, if there is one, are its own totals plus those of the others, number by number
-totals_one : (o : Option Appearance) (games : List Appearance) → totals (cons_option o games)
-    ≡ together (totals (cons_option o [])) (totals games)
-unfolding totals
-totals_one o games = rw (
-  length_one o games,
-  sum_one (λ x. cond (is_won x) 1 0) o games,
-  sum_one (λ x. cond (is_drawn x) 1 0) o games,
-  sum_one (λ x. cond (is_lost x) 1 0) o games,
-  sum_one (λ x. x.scored) o games,
-  sum_one (λ x. x.conceded) o games,
-  sum_one disciplinary_points o games,
-  away_one (λ x. x.scored) o games,
-  away_one (λ x. cond (is_won x) 1 0) o games,
-)
-
--- p and q are a club's results in matches in play and in finished ones: to add x, for a match that has begun, to both together is to add
--- it to p, if the match is in play, or to q, if it is finished
-part_one : (x p q : Results) (begun over : Bool) → (over ≡ true → begun ≡ true)
-    → cond begun (together x (together p q)) (together p q)
-    ≡ together (cond (begun && not over) (together x p) p) (cond over (together x q) q)
-part_one x p q true true h = search arith
-part_one x p q true false h = search arith
-part_one x p q false true h = absurd (true≢false (sym (h refl)))
-part_one x p q false false h = refl
-
--- with one match in front, if it passes a test, a club's results in the matches that pass have those of this match added
-in_front : (p : Match → Bool) (club : ℕ) (m : Match) (ms : List Match) → results_of club (filter p (m ∷ ms))
-    ≡ cond (p m) (together (totals (cons_option (seen_by club m) [])) (results_of club (filter p ms))) (results_of club (filter p ms))
-in_front p club m ms = elim (cases_Bool (p m)) [
-  | inl passes ↦ rw passes (totals_one (seen_by club m) (appearances club (filter p ms)))
-  | inr fails ↦ rw fails refl
-]
-
--- sums of equal results are equal
-together_same : {a b c d : Results} → a ≡ b → c ≡ d → together a c ≡ together b d
-together_same e f = rw (e, f)
-
--- a finished match has begun
-ended_begun : (m : Match) → has_finished m ≡ true → has_started m ≡ true
-ended_begun m h = search arith
+-- what adds up is, in the matches that have begun, the sum of what it is in those in play and in the finished ones
+part : {g : List Appearance → ℕ} → AddsUp g → (club : ℕ) (ms : List Match) → g (appearances club (filter has_started ms))
+    ≡ g (appearances club (filter is_under_way ms)) + g (appearances club (filter has_finished ms))
+part adds club ms =
+    let both = both_parts adds club has_finished (filter has_started ms) in
+    let split = rw (ended ms, filter-twice has_started (λ m. not (has_finished m)) ms) at both in omega arith
 
 -- the results of a club in the matches that have begun are those in play and those in finished ones together
 pub parts : (club : ℕ) (ms : List Match)
     → results_of club (filter has_started ms)
     ≡ together (results_of club (filter is_under_way ms)) (results_of club (filter has_finished ms))
 unfolding totals
-parts club [] = refl
-parts club (m ∷ ms) =
-    let one : Results = totals (cons_option (seen_by club m) []) in
-    in_front has_started club m ms
-    ∙ (ap (λ r. cond (has_started m) (together one r) r) (parts club ms)
-    ∙ (part_one one _ _ (has_started m) (has_finished m) (ended_begun m)
-    ∙ sym (together_same (in_front is_under_way club m ms) (in_front has_finished club m ms))))
+parts club ms =
+    let sum = λ (f : Appearance → ℕ). part (sum_adds f) club ms in
+    let away = λ (f : Appearance → ℕ). part (away_adds (sum_adds f)) club ms in
+    rw (
+      part length_adds club ms,
+      sum (λ a. cond (is_won a) 1 0),
+      sum (λ a. cond (is_drawn a) 1 0),
+      sum (λ a. cond (is_lost a) 1 0),
+      sum (λ a. a.scored),
+      sum (λ a. a.conceded),
+      sum disciplinary_points,
+      away (λ a. a.scored),
+      away (λ a. cond (is_won a) 1 0),
+    )
 
 -- All are finished just where each club has played its six. --
 
@@ -141,7 +96,6 @@ none-left (m ∷ ms) club h = let parts = and_parts (has_finished m) (list_all h
 -- where no club has a match left to play, all matches are finished
 all-over : (ms : List Match) → All IsPairing ms → ((club : ℕ) → IsSlot club → played club (unfinished ms) ≡ 0) → list_all has_finished ms
     ≡ true
-unfolding plays
 all-over [] pairs none = refl
 all-over (m ∷ ms) pairs none =
     elim (cases_Bool (has_finished m)) [
@@ -149,18 +103,10 @@ all-over (m ∷ ms) pairs none =
       | inr left ↦
           let pair = All-head IsPairing m ms pairs in
           let one = rw left at (none m.home pair.0) in
-          let more = played-cons m.home m (unfinished ms) in
-          let here : plays (seen_by m.home m) ≡ 1 = rw (eq-eqb m.home m.home refl) refl in
+          let more = in_front length_adds m.home m (unfinished ms) in
+          let here : played m.home (m ∷ []) ≡ 1 = rw (eq-eqb m.home m.home refl) refl in
           absurd (omega arith)
     ]
-
--- of six matches a club has finished all six just if it has none left to play
-six-left : (ms : List Match) (club : ℕ) → IsSlot club → HasSixEach ms → (played club (finished ms) ≡ 6 → played club (unfinished ms) ≡ 0)
-    × (played club (unfinished ms) ≡ 0 → played club (finished ms) ≡ 6)
-six-left ms club slot six = (
-  (λ e. omega (arith, six club slot, played-parts has_finished club ms)),
-  (λ e. omega (arith, six club slot, played-parts has_finished club ms)),
-)
 
 -- all matches are finished just where each club has six finished ones
 pub all_six : (ms : List Match) → All IsPairing ms → HasSixEach ms →
@@ -168,22 +114,22 @@ pub all_six : (ms : List Match) → All IsPairing ms → HasSixEach ms →
     ≡ list_all has_finished ms
 all_six ms pairs six = elim (cases_Bool (list_all has_finished ms)) [
   | inl all ↦
-      let each : (club : ℕ) → IsSlot club → (played club (finished ms) == 6)
-      ≡ true = λ club slot. eq-eqb _ _ ((six-left ms club slot six).1 (none-left ms club all)) in
+      let each : (club : ℕ) → IsSlot club → (played club (finished ms) == 6) ≡ true =
+      λ club slot. eq-eqb _ _ (omega (arith, six club slot, both_parts length_adds club has_finished ms, none-left ms club all)) in
       rw (
         all,
         each 1 (slots 0 0 (omega arith)),
         each 2 (slots 1 0 (omega arith)),
         each 3 (slots 2 0 (omega arith)),
-        each 4
-            (slots 3 0 (omega arith)),
+        each 4 (slots 3 0 (omega arith)),
       )
   | inr some ↦ rw some (false_from_ne_true _ (λ four.
       let last = and_parts _ _ four in
       let third = and_parts _ _ last.0 in
       let two = and_parts _ _ third.0 in
+      let played_all : (club : ℕ) → IsSlot club → played club (finished ms) ≡ 6 =
+      each_slot (λ c. played c (finished ms) ≡ 6) (eqb-true _ _ two.0) (eqb-true _ _ two.1) (eqb-true _ _ third.1) (eqb-true _ _ last.1) in
       let none : (club : ℕ) → IsSlot club → played club (unfinished ms) ≡ 0 =
-      (λ club slot. (six-left ms club slot six).0 (each_slot (λ c. played c (finished ms) ≡ 6) (eqb-true _ _ two.0) (eqb-true _ _ two.1)
-      (eqb-true _ _ third.1) (eqb-true _ _ last.1) club slot)) in
+      λ club slot. omega (arith, six club slot, both_parts length_adds club has_finished ms, played_all club slot) in
       true≢false (sym (all-over ms pairs none) ∙ some)))
 ]
