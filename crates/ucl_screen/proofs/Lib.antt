@@ -1,6 +1,7 @@
 pub mod Common
 pub mod RowFacts
 pub mod PlainRows
+pub mod Commas
 pub mod Digits
 pub mod RowFaults
 pub mod Columns

@@ -22,12 +22,12 @@ cut text tail at = ap (λ (l : List ℕ). l ++ tail) (sym (take-append-drop at t
 -- ---- a field
 
 -- a byte that can belong to a field that began with no quote is no comma, and ends no line
-record Joining (b : ℕ) : Type 0 where
-  comma : (b == 44) ≡ false
-  end : is_line_end b ≡ false
+pub record Joining (b : ℕ) : Type 0 where
+  pub comma : (b == 44) ≡ false
+  pub end : is_line_end b ≡ false
 
 -- a byte that passes the test for a byte of a bare (unquoted) field is no comma, and ends no line
-joining : (b : ℕ) → is_joining b ≡ true → Joining b
+pub joining : (b : ℕ) → is_joining b ≡ true → Joining b
 joining b h = record { comma = grind (arith, nat_tests, h); end = grind (arith, nat_tests, h) }
 
 -- the parser of `csv`, within a bare (unquoted) field, copies the bytes of such a field and stays within it

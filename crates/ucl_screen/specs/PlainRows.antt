@@ -1,6 +1,7 @@
 -- Rows that are read where they lie, since each field is in its text as it is, and how the crate `csv` reads them (`next_record` there).
 -- A field is in its text as it is if it begins with no quote, or if it is in quotes and has none within.
-use Rattle.std.specs.Prelude.{◌≡◌, ⊤, Bool, true, false, not, ◌==◌, ◌&&◌, ◌||◌, ℕ, List, [], ◌∷◌, ◌++◌, get_or, Some, None}
+use Rattle.std.specs.List.{list_any}
+use Rattle.std.specs.Prelude.{◌≡◌, ⊤, Bool, true, false, not, ◌==◌, ◌&&◌, ◌||◌, ℕ, ◌+◌, List, [], ◌∷◌, ◌++◌, get_or, Some, None, if◌then◌else◌}
 use Rattle.csv.specs.Machine.{Read, ends_at_end, in_field, next_record, step}
 use Rattle.csv.specs.Reading.{default_config, records}
 use Rattle.csv.specs.declared.parser.State.{State}
@@ -20,6 +21,21 @@ is_joining b = not (b == 44) && not (is_line_end b)
 -- whether a byte can belong to the content of a field in quotes: it is no quote
 abbrev pub is_quotable : ℕ → Bool
 is_quotable b = not (b == 34)
+
+-- whether a text has a quote
+abbrev pub has_quote : List ℕ → Bool
+has_quote text = list_any (λ b. b == 34) text
+
+-- how many commas a text has before its first end of a line
+unfoldable pub commas : List ℕ → ℕ
+commas [] = 0
+commas (b ∷ text) = if is_line_end b then 0 else (if b == 44 then 1 else 0) + commas text
+
+-- `rest` follows the first field of a text, and begins with what ends the field: it has all the commas of the first line, and no quote
+pub record FollowsField (text rest : List ℕ) : Type 0 where
+  pub plain : has_quote rest ≡ false
+  pub ends : is_joining (get_or rest 0 10) ≡ false
+  pub all : commas rest ≡ commas text
 
 -- a text is empty, or begins with an end of a line
 abbrev pub AtLineEnd : List ℕ → Type 0
@@ -63,3 +79,9 @@ IsFirstRow first.None text = (tail : List ℕ) → records default_config (text 
 IsFirstRow (first.Four four rest) text = BeginsWithRow text (fields_of_four (four_seen four)) rest.now
 IsFirstRow first.Other text = (row : Fields) × (rest : List ℕ) × BeginsWithRow text row rest × (four_of row ≡ None)
 IsFirstRow first.Unread text = ⊤
+
+-- the first row of a text that has no quote is not left to `csv`, and if it has four fields, the rest has no quote either
+abbrev pub IsReadPlain : FirstRow → Type 0
+IsReadPlain (first.Four four rest) = has_quote rest.now ≡ false
+IsReadPlain first.Unread = ⊥
+IsReadPlain row = ⊤

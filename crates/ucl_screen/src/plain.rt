@@ -1,11 +1,12 @@
 //! The first row of a text, read where it lies. The crate `csv` has to read it only if one of its fields begins with a quote and has
 //! another one within, or something between its last quote and the comma behind it.
 
-ghost use Rattle.std.specs.Prelude.{◌≡◌, ◌==◌, ◌<◌, ◌≤◌, ◌+◌, ◌++◌, IfSome, List, ℕ, false, get_or, length, take, true};
+ghost use Rattle.std.specs.Prelude.{◌≡◌, ◌≢◌, ◌==◌, ◌<◌, ◌≤◌, ◌+◌, ◌++◌, IfSome, IsSomeAnd, List, MatchOption, Some, ℕ, false, get_or, length, take, true};
 ghost use Rattle.std.specs.List.{list_all};
 ghost use Rattle.csv.specs.Reading.{strip_bom};
 ghost use Rattle.ucl_screen.specs.Rows.{Fields, four_seen};
-ghost use Rattle.ucl_screen.specs.PlainRows.{AtLineEnd, BeginsWithField, BeginsWithRow, IsFieldBefore, IsFirstRow, IsLastField, fields_of_four, is_joining, is_line_end, is_quotable};
+ghost use Rattle.ucl_screen.specs.PlainRows.{AtLineEnd, BeginsWithField, BeginsWithRow, FollowsField, IsFieldBefore, IsFirstRow, IsLastField, IsReadPlain};
+ghost use Rattle.ucl_screen.specs.PlainRows.{commas, fields_of_four, has_quote, is_joining, is_line_end, is_quotable};
 
 use crate::rows::Four;
 
@@ -41,6 +42,7 @@ fn is_joining(b: u8) -> bool
 fn bare_length(text: &[u8]) -> usize
     ensures within { result ≤ length text.now }
     ensures joining { list_all is_joining (take result text.now) ≡ true }
+    ensures stops { result < length text.now → is_joining (get_or text.now result 0) ≡ false }
 {
     for at in 0..text.len() {
         if !is_joining(text[at]) {
@@ -68,6 +70,7 @@ fn quoted_length(text: &[u8]) -> usize
 fn field(text: &[u8]) -> Option<(&[u8], &[u8])>
     ensures begins { IfSome result (λ p. BeginsWithField text.now p.0.now p.1.now) }
     ensures shorter { IfSome result (λ p. length p.1.now ≤ length text.now) }
+    ensures plain { has_quote text.now ≡ false → IsSomeAnd result (λ p. FollowsField text.now p.1.now) }
 {
     if !begins_with(text, b'"') {
         let at = bare_length(text);
@@ -86,6 +89,8 @@ fn field(text: &[u8]) -> Option<(&[u8], &[u8])>
 fn field_before(text: &[u8]) -> Option<(&[u8], &[u8])>
     ensures before { IfSome result (λ p. IsFieldBefore text.now p.0.now p.1.now) }
     ensures shorter { IfSome result (λ p. length p.1.now < length text.now) }
+    ensures plain { has_quote text.now ≡ false → MatchOption result (commas text.now ≡ 0)
+        (λ p. (has_quote p.1.now ≡ false) × (commas p.1.now + 1 ≡ commas text.now)) }
 {
     let (field, rest) = field(text)?;
     if begins_with(rest, b',') {
@@ -111,7 +116,9 @@ fn at_line_end(text: &[u8]) -> bool
 
 /// Returns the field that a text begins with and what follows it, or `None` if it is not closed or neither a line nor the text ends there.
 fn last_field(text: &[u8]) -> Option<(&[u8], &[u8])>
-    ensures { IfSome result (λ p. IsLastField text.now p.0.now p.1.now) }
+    ensures last { IfSome result (λ p. IsLastField text.now p.0.now p.1.now) }
+    ensures plain { has_quote text.now ≡ false → MatchOption result (0 < commas text.now)
+        (λ p. (has_quote p.1.now ≡ false) × (commas text.now ≡ 0)) }
 {
     let (field, rest) = field(text)?;
     if at_line_end(rest) {
@@ -124,7 +131,9 @@ fn last_field(text: &[u8]) -> Option<(&[u8], &[u8])>
 /// Returns the four fields of the row that a text begins with, and what follows it; `None` if it has not four, or only `csv` can read it.
 fn four_before(text: &[u8]) -> Option<(Four<'_>, &[u8])>
     requires { is_line_end (get_or text.now 0 10) ≡ false }
-    ensures { IfSome result (λ p. BeginsWithRow text.now (fields_of_four (four_seen p.0)) p.1.now) }
+    ensures row { IfSome result (λ p. BeginsWithRow text.now (fields_of_four (four_seen p.0)) p.1.now) }
+    ensures plain { has_quote text.now ≡ false → MatchOption result (commas text.now ≢ 3)
+        (λ p. has_quote p.1.now ≡ false) }
 {
     let (first, rest) = field_before(text)?;
     let (second, rest) = field_before(rest)?;
@@ -142,8 +151,9 @@ fn four_before(text: &[u8]) -> Option<(Four<'_>, &[u8])>
 /// Returns how many fields the row has that a text begins with, or `None` if only `csv` can read it.
 fn field_count(text: &[u8]) -> Option<usize>
     requires { is_line_end (get_or text.now 0 10) ≡ false }
-    ensures { IfSome result (λ count. (row : Fields) × (rest : List ℕ) × BeginsWithRow text.now row rest
+    ensures row { IfSome result (λ count. (row : Fields) × (rest : List ℕ) × BeginsWithRow text.now row rest
         × (length row ≡ count)) }
+    ensures plain { has_quote text.now ≡ false → result ≡ Some (commas text.now + 1) }
 {
     let mut rest = text;
     let mut count = 1;
@@ -170,9 +180,11 @@ fn ends_length(text: &[u8]) -> usize
 }
 
 /// Returns what a text begins with: no row, a row of four fields, a row of more or fewer, or a row that only `csv` can read. The row is the
-/// first that `csv` reads of the text, also if more follows where a line ends; the rest has the other rows.
+/// first that `csv` reads of the text, also if more follows where a line ends; the rest has the other rows. Only in a text with a quote is
+/// there a row that only `csv` can read.
 pub fn first_row(text: &[u8]) -> FirstRow<'_>
-    ensures { IsFirstRow result text.now }
+    ensures begins { IsFirstRow result text.now }
+    ensures plain { has_quote text.now ≡ false → IsReadPlain result }
 {
     let at = ends_length(text);
     if at == text.len() {
@@ -191,7 +203,8 @@ pub fn first_row(text: &[u8]) -> FirstRow<'_>
 /// Returns a text without the UTF-8 byte order mark that it may begin with.
 #[tactic(auto, using(crate::proofs::PlainRows::unmarked))]
 pub fn without_mark(text: &[u8]) -> &[u8]
-    ensures { (tail : List ℕ) → AtLineEnd tail → strip_bom (text.now ++ tail) ≡ result.now ++ tail }
+    ensures strips { (tail : List ℕ) → AtLineEnd tail → strip_bom (text.now ++ tail) ≡ result.now ++ tail }
+    ensures plain { has_quote text.now ≡ false → has_quote result.now ≡ false }
 {
     if text.len() >= 3 && text[0] == 0xEF && text[1] == 0xBB && text[2] == 0xBF {
         &text[3..]
