@@ -111,6 +111,7 @@ fn enter_again(board: &mut Board, row: u32, event: &StandingEvent) -> Fate
 /// Returns an empty list of events that are left out, with room for `most` if they are to be `listed`. Fails only if out of memory.
 fn room_for(alloc: Global, most: usize, listed: bool) -> Result<Vec<LeftOut>, AllocError>
     ensures empty { IfOk result (λ left. left.items ≡ []) }
+    ensures memory { IfErr result (λ _. listed ≡ true) }
     ensures room { IfOk result (λ left. listed ≡ true → most ≤ vec_capacity left) }
 {
     if listed {
@@ -206,7 +207,7 @@ impl StandingEvents {
     ///
     /// # Errors
     ///
-    /// If there is no memory for the list. Then nothing has changed.
+    /// If there is no memory for the list, which only events that are to be listed need. Then nothing has changed.
     pub fn mend(
         &mut self,
         alloc: Global,
@@ -216,6 +217,7 @@ impl StandingEvents {
         ensures events { OnOk result (self.new ≡ mended row self.old) }
         ensures left { IfOk result (λ left. left.items ≡ left_if listed row self.old) }
         ensures few { IfOk result (λ left. length left.items ≤ 49140) }
+        ensures memory { IfErr result (λ _. listed ≡ true) }
         ensures unchanged { IfErr result (λ _. self.new ≡ self.old) }
     {
         let mut left = room_for(alloc, self.events.len(), listed)?;
