@@ -168,9 +168,8 @@ class Shell:
     """Lines that are typed in a shell, with the addresses of this test in place of the page's."""
 
     def __init__(self, lines: str, server: int, broker: int, **env: str) -> None:
-        text = lines.replace("192.168.1.5:8080", f"127.0.0.1:{server}").replace(
-            "0.0.0.0", "127.0.0.1"
-        )
+        text = lines.replace("192.168.1.5:8080", f"127.0.0.1:{server}")
+        text = text.replace("0.0.0.0", "127.0.0.1")
         for name in "mosquitto_pub", "mosquitto_sub":
             text = text.replace(name, f"{name} -p {broker}")
         how: dict[str, Any] = {"cwd": TOP, "env": {**os.environ, **env}, "start_new_session": True}

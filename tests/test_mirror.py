@@ -82,12 +82,8 @@ def test_a_mirror_of_a_mirror_shows_what_the_board_shows(hall: Halls, mirrors: M
     for number, event in enumerate(["kickoff", "goal-home", "yellow-away"]):
         assert phone.answer(1, number, event) == "entered"
     assert screen.until("screen", version=3, group="A") and versions(feed, 3) == [0, 1, 2, 3]
-    named = {
-        "reply": "hall",
-        "title": "Finals",
-        "groups": "AB",
-        "tonight": {"A": [1, 2], "B": [1, 2]},
-    }
+    tonight = {"A": [1, 2], "B": [1, 2]}
+    named = {"reply": "hall", "title": "Finals", "groups": "AB", "tonight": tonight}
     assert screen.lines[0] == named
     assert table(one) == table(first) == table(second) and table(one, "B") == table(second, "B")
     assert got(second.port, "/table.txt?group=A")[2] == got(one.port, "/table.txt?group=A")[2]
@@ -122,11 +118,8 @@ def test_the_board_is_killed_and_comes_back(hall: Halls, mirrors: Mirrors) -> No
     one.process.send_signal(signal.SIGSTOP)
     assert early.until("pulse", groups="") and not mirror.is_there()
     late = Socket(mirror.port, "/lines")
-    assert late.until("screen", version=1) and late.receive() == {
-        "reply": "pulse",
-        "groups": "",
-        "moments": {},
-    }
+    assert late.until("screen", version=1)
+    assert late.receive() == {"reply": "pulse", "groups": "", "moments": {}}
     old = int(got(mirror.port, "/table.txt")[1]["age"])
     assert until(lambda: int(got(mirror.port, "/table.txt")[1]["age"]) > old >= 3)
     one.process.send_signal(signal.SIGCONT)
@@ -276,12 +269,8 @@ def test_lines_that_are_none_of_a_feed(mirrors: Mirrors) -> None:
     put(mirror, [*HOSTILE * 20, LINES[1]])
     assert mirror.shows(2) and [*health(mirror.port)["groups"]] == ["A"]
     screen = Socket(mirror.port, "/lines")
-    assert screen.receive() == {
-        "reply": "hall",
-        "title": "?[2J?",
-        "groups": "A",
-        "tonight": {"A": [1]},
-    }
+    named = {"reply": "hall", "title": "?[2J?", "groups": "A", "tonight": {"A": [1]}}
+    assert screen.receive() == named
     assert mirror.end(signal.SIGTERM) == (0, "", "")
 
 

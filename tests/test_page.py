@@ -211,8 +211,14 @@ class Sheet:
         """Opens the page with these words, in a browser that knows nothing of an evening."""
         self.resize(size)
         self.browser.get(f"{PAGE.as_uri()}?details&{words}")
-        self.run("localStorage.clear()")
-        self.reload()
+
+        def forgets():
+            """What is taken away may be there still for the page that comes at once."""
+            self.run("localStorage.clear()")
+            self.reload()
+            return self.run("return localStorage.length === 0")
+
+        assert until(forgets)
 
     def reload(self):
         """Opens the page again, with a clock that stands still until a test puts it ahead, and one that somebody has set back. No WebSocket is opened from a file, so no timer runs."""
@@ -707,7 +713,9 @@ def test_matches_that_are_over_stay_until_their_clubs_play_again(sheet):
     sheet.open("group=A")
     for moment in [*first, *second]:
         assert sheet.take(moment.line()) == {"A": moment.shown()}
-    sheet.reload()
+    kept = "return JSON.stringify({...localStorage})"
+    before = sheet.run(kept)
+    assert until(lambda: sheet.reload() or sheet.run(kept) == before)
     place, matches = first[2].games[0] - 1, [*second[2].matches]
     matches[place] = model.match_of(matches[place].word())
     for word in "reopen", "fulltime":

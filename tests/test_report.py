@@ -45,8 +45,18 @@ class Page(Phone):
         added = self.cdp("Page.addScriptToEvaluateOnNewDocument", source=SOCKET)
         self.added: str = added["identifier"]
         browser.get(PAGE.as_uri())
-        self.run("sessionStorage.clear()")
-        browser.refresh()
+        self.load(0, "sessionStorage.clear()")
+
+    def load(self, taps: int, before: str = "return") -> None:
+        """Loads it again, until it knows of so many taps: what the page before has kept, or has
+        taken away, may come to this one a moment late."""
+
+        def knows() -> bool:
+            self.run(before)
+            self.browser.refresh()
+            return bool(self.run("return waiting.size === arguments[0]", taps))
+
+        assert until(knows)
 
     def close(self) -> None:
         """Leaves the browser as it was."""
@@ -288,7 +298,7 @@ def test_a_page_that_is_loaded_again(page: Page) -> None:
     page.begin(STARTED)
     page.click("goal-home")
     (first,) = page.run("return sent()")
-    page.browser.refresh()
+    page.load(1)
     page.begin(STARTED)
     assert page.run("return sent()") == [{"ask": first.pop("tap"), **first}]
     page.answer("lost", "Not entered: it did not arrive")
