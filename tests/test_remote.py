@@ -26,6 +26,7 @@ from test_serve import hall as hall
 from ucl_hall.faults import NotEntered, Over
 from ucl_hall.record.sending import Events
 from ucl_hall.remote.board import Remote
+from ucl_hall.remote.link import Link
 from ucl_hall.rows import Row
 
 pytestmark = pytest.mark.limit(300)
@@ -237,6 +238,30 @@ def test_a_connection_that_is_silent_and_comes_back(
     far.enter("1 goal home", "entered, row 8: Bravo 2-0")
     assert far.end() == 0
     assert one.rows() == ["1,1,0,kickoff", "1,1,1,goal-home", "1,1,2,goal-home"]
+
+
+def test_a_server_that_is_silent_is_not_waited_for(
+    hall: Halls, monkeypatch: pytest.MonkeyPatch
+) -> None:
+    """It takes no leave either, for which a WebSocket would wait ten seconds more."""
+    monkeypatch.setattr("ucl_hall.remote.link.SILENCE", 2.0)
+    one = hall("--reporter", "1")
+
+    async def silent() -> float:
+        """For how long nobody is told."""
+        heard, notices = asyncio.Event(), asyncio.Queue[str]()
+        opened = Link(link(one), lambda *_: heard.set(), notices.put_nowait)
+        running = asyncio.create_task(opened.run())
+        await heard.wait()
+        one.process.send_signal(signal.SIGSTOP)
+        began = time.monotonic()
+        while await notices.get() != NO_CONNECTION:
+            pass
+        running.cancel()
+        await asyncio.gather(running, return_exceptions=True)
+        return time.monotonic() - began
+
+    assert asyncio.run(silent()) < 10
 
 
 def test_matches_that_are_another_s_when_the_server_is_back(

@@ -151,7 +151,8 @@ class Link:
             if sending is not None:
                 sending.cancel()
                 await asyncio.gather(sending, return_exceptions=True)
-            await socket.close()
+            # A server that is gone takes no leave, for which a WebSocket would wait ten seconds.
+            await asyncio.wait([asyncio.create_task(socket.close())], timeout=PAUSE)
 
     async def _send(self, socket: aiohttp.ClientWebSocketResponse) -> None:
         while True:
