@@ -18,6 +18,7 @@ import model
 import pytest
 from aiohttp import ClientSession, web
 from conftest import TOP, Started, command, free_port, is_reached, lines_to_type, needs
+from drivers.server import health
 from nodes import Apart, Nodes, text64
 from replicated import Evening, Server
 from test_phone import browsers
@@ -701,9 +702,11 @@ def test_a_node_that_is_cut_off(live: str, tmp_path: pathlib.Path) -> None:
         id = far.tap(1, 2, "goal-home")
         screen = Socket(ports[1], "/lines")
         assert screen.until("screen", version=1) and screen.until("pulse", groups="")
+        assert health(ports[1])["fault"] == "nothing is heard of its board"
         nodes.cut_off(2, is_back=True)
         assert far.until("answer", id=id)["told"] == "Entered, 2\N{EN DASH}0"
         assert screen.until("screen", version=3) and screen.until("pulse", groups="B")
+        assert health(ports[1])["fault"] == ""
 
 
 def test_what_a_server_prints_of_a_record(nodes: Nodes, live: str, tmp_path: pathlib.Path) -> None:

@@ -22,6 +22,7 @@ from ucl_hall.rows import Row
 from ucl_hall.terminal.pending import Seen
 from ucl_hall.terminal.session import Session
 from ucl_hall.web.phones import WAYS, Reporter, message_of
+from ucl_hall.web.shown import Shown
 
 pytestmark = pytest.mark.quick
 STARTED = f"group,B,uefa,0\n{model.CLUBS}1,1,0,kickoff\n1,1,1,goal-home\n1,1,2,goal-away\n"
@@ -285,3 +286,35 @@ def test_what_others_enter_is_told() -> None:
         assert shown.lines == [told]
 
     at_terminal(work)
+
+
+class Silent(Shown):
+    """A group of which nothing was heard for as long as the test says."""
+
+    silence = 0
+
+    def tonight(self) -> None:
+        """Nobody has named them."""
+
+    def more(self) -> dict[str, object]:
+        """Nothing."""
+        return {}
+
+
+def test_an_operator_is_told_that_a_board_is_gone(capsys: pytest.CaptureFixture[str]) -> None:
+    """Once, after five seconds, and that it is there again; who asks is told at once."""
+    gone = "nothing is heard of its board"
+
+    async def work() -> None:
+        board: Any = Board(moment_of(STARTED))
+        group: Any = Silent("B", board)
+        for silence, fault, told in [
+            *((0, "", ""), (5, gone, ""), (6, gone, f"ucl_serve: group B: {gone}\n")),
+            *((60, gone, ""), (0, "", "ucl_serve: group B: it is there again\n"), (0, "", "")),
+        ]:
+            group.silence = silence
+            group.look()
+            assert capsys.readouterr().err == told
+            assert (group.health()["fault"], group.health()["is_there"]) == (fault, not silence)
+
+    asyncio.run(work())

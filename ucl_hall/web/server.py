@@ -149,6 +149,8 @@ class Server:
         if self._hall != before:
             self.screens.send("hall", self._hall)
         self.screens.send("pulse", line)
+        for group in self.groups:
+            group.look()
         self.notices.tell()
         self._cut_off = self.notices.all_cut_off
         if self._cut_off != cut_off:
@@ -172,7 +174,7 @@ class Server:
 
     async def _health(self, request: web.Request) -> web.Response:
         groups = {group.letter: group.health() for group in self.groups}
-        faults = [group.fault for group in self.groups if group.fault] + [self.fault]
+        faults = [it["fault"] for it in groups.values() if it["fault"]] + [self.fault]
         told = {
             "groups": groups,
             "screens": len(self.screens),

@@ -13,12 +13,18 @@ from ucl_hall.record.record import Record
 from ucl_hall.text import warn
 
 
+# After how many seconds without a word of a board its operator is told; and what is told.
+GONE = 5
+NOTHING = "nothing is heard of its board"
+
+
 class Shown(abc.ABC):
     """A group that is shown to whoever looks on. `fault` says why its board can be followed no more;
     it is empty where it can."""
 
     def __init__(self, letter: str, board: Record | Follow) -> None:
         self.letter, self.fault, self._board = letter, "", board
+        self._is_gone = False
         board.over.add_done_callback(self._end)
 
     @property
@@ -42,7 +48,16 @@ class Shown(abc.ABC):
     def health(self) -> dict[str, object]:
         """What whoever watches it is told."""
         age = {"edition": self.moment.edition, "version": self.moment.version}
-        return {**age, "is_there": not self.silence, **self.more(), "fault": self.fault}
+        silence = self.silence
+        fault = self.fault or (NOTHING if silence else "")
+        return {**age, "is_there": not silence, **self.more(), "fault": fault}
+
+    def look(self) -> None:
+        """Tells the operator that nothing is heard of the board, and that it is there again."""
+        is_gone = self.silence > GONE
+        if is_gone != self._is_gone and not self.fault:
+            self._is_gone = is_gone
+            warn(f"ucl_serve: group {self.letter}: {NOTHING if is_gone else 'it is there again'}")
 
     def _end(self, over: asyncio.Future[None]) -> None:
         if not over.cancelled():
