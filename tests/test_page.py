@@ -19,7 +19,7 @@ from drivers.program import Started
 from drivers.text import TOP
 from drivers.wait import until
 
-pytestmark = pytest.mark.limit(400)
+pytestmark = pytest.mark.limit(900)
 PAGE = TOP / "ucl_hall/web/pages/index.html"
 LARGE = (1920, 1080)
 # How large names, figures and scores of the season are at least at each size: of one group, and on the wall.
@@ -755,7 +755,7 @@ def test_seasons_that_are_replayed(browser):
             browser.get(f"http://127.0.0.1:{port}/?{words}&pace=1&details")
             ends = {letter: season(letter, year)[-1].shown() for letter in letters}
             wanted = {letter: {**end, "signal": "Replay"} for letter, end in ends.items()}
-            until(lambda: shown() == wanted, 60)
+            until(lambda: shown() == wanted, 200)
             assert shown() == wanted, words
         browser.get(f"http://127.0.0.1:{port}/?replay=2020-21&group=A")
         assert until(lambda: shown()["A"]["signal"] == "No recording", 20)
