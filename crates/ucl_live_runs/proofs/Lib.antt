@@ -6,7 +6,6 @@ pub mod Entered
 pub mod Runs
 pub mod AnswerValues
 pub mod AnswerLines
-pub mod MendLines
 pub mod Told
 pub mod RecordEnds
 pub mod Moments

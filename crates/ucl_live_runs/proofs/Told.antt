@@ -24,6 +24,7 @@ use Rattle.ucl_command.specs.Groups.{may_be_asked}
 use Rattle.ucl_screen.specs.Numbers.{number}
 unfoldable use Rattle.ucl_mends.specs.Mended.{left_out_after}
 use Rattle.ucl_live_runs.proofs.AnswerLines.{CarriesAtMost, HasNumbers, IsShown, accepted-line, bad-line, board-fits, carried-line, carried-then, carried_in}
+use Rattle.ucl_live_runs.proofs.AnswerLines.{left-out-line, mend-refused-line, mended-line}
 use Rattle.ucl_live_runs.proofs.AnswerLines.{found-fits, matches-line, most-none, most-then, refused-line, value-line, words-line}
 use Rattle.ucl_live_runs.proofs.AnswerValues.{screen-back, screen-plain}
 use Rattle.ucl_live_runs.proofs.Boards.{IsGood, IsPossible, IsSmall, good-after, good-club, good-clubs, good-first, good-mend, later-edition}
@@ -31,7 +32,6 @@ use Rattle.ucl_live_runs.proofs.Boards.{possible, ranged, version-after}
 use Rattle.ucl_live_runs.proofs.Entered.{entered-board, entered-legal}
 use Rattle.ucl_live_runs.proofs.FollowShown.{IsOfSame}
 use Rattle.ucl_live_runs.proofs.Lines.{by-line}
-use Rattle.ucl_live_runs.proofs.MendLines.{left-out-line, mend-refused-line, mended-line}
 use Rattle.ucl_live_runs.specs.Follow.{screen_of}
 use Rattle.ucl_json.proofs.AnswerSizes.{version-fits}
 use Rattle.ucl_json.proofs.PlainValues.{IsShortPlain}
