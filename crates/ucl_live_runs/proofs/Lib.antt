@@ -2,7 +2,6 @@ pub mod Common
 pub mod Boards
 pub mod Lines
 pub mod FollowShown
-pub mod Entered
 pub mod Runs
 pub mod AnswerValues
 pub mod AnswerLines
