@@ -1,22 +1,24 @@
 -- The lines of answers, and what each carries.
 use Rattle.ucl_live_runs.proofs.Common.{All, All-append, All-cons, All-head, All-nil, All-tail, All-weaker, AreWords, BoardState, Bool}
-use Rattle.ucl_live_runs.proofs.Common.{Data, HasNoFeed, IfSome, IsRoster, IsValid, IsWord, Kind, List, MatchRecord, NamedClub}
-use Rattle.ucl_live_runs.proofs.Common.{NightEvent, None, Option, Refusal, Some, [], and_from, ap, append_cancel_right, arith}
-use Rattle.ucl_live_runs.proofs.Common.{bad_row_value, begun_append, begun_ended, begun_line, begun_none, cases_Bool}
-use Rattle.ucl_live_runs.proofs.Common.{compact_text, ended_append, ended_line, ended_lines, ended_none, escape_byte, false, field_name}
-use Rattle.ucl_live_runs.proofs.Common.{fits, found_of, if◌then◌else◌, inl, inr, is_printed, json_line, length, length-take}
-use Rattle.ucl_live_runs.proofs.Common.{list_all, map, map-append, matches_value, number_valid, one_line, parse_board_line}
-use Rattle.ucl_live_runs.proofs.Common.{parse_board_state, printed, quoted, record_at, refl, refusal_code, refusal_name, refusal_of}
-use Rattle.ucl_live_runs.proofs.Common.{refused_by, refused_value, serde_json_on_literals, shown_text, subst, sym, take, take_all}
-use Rattle.ucl_live_runs.proofs.Common.{true, word_high, word_valid, words_value, ℕ, ◌++◌, ◌/◌, ◌<◌, ◌^◌, ◌∙◌, ◌∷◌, ◌≡◌, ◌≢◌, ◌≤◌, ◌⊎◌}
+use Rattle.ucl_live_runs.proofs.Common.{Data, Entry, HasNoFeed, IfSome, IsRoster, IsValid, IsWord, Kind, LeftOut, List, MatchRecord}
+use Rattle.ucl_live_runs.proofs.Common.{MendRefusal, NamedClub, NightEvent, None, Option, Refusal, Some, [], and_from, ap, append-nil}
+use Rattle.ucl_live_runs.proofs.Common.{append_cancel_right, ap₂, arith, bad_row_value, begun_append, begun_ended, begun_line, begun_none}
+use Rattle.ucl_live_runs.proofs.Common.{cases_Bool, compact_text, ended_append, ended_line, ended_lines, ended_none, escape_byte, false}
+use Rattle.ucl_live_runs.proofs.Common.{field_name, fits, flat_map-append, found_of, get_or, if◌then◌else◌, inl, inr, is_printed, json_line}
+use Rattle.ucl_live_runs.proofs.Common.{left_out_lines, left_out_value, length, length-take, list_all, map, map-append, matches_value}
+use Rattle.ucl_live_runs.proofs.Common.{mend_refused_value, mended_value, number_valid, one_line, parse_board_line, parse_board_state}
+use Rattle.ucl_live_runs.proofs.Common.{printed, quoted, record_at, refl, refusal_code, refusal_name, refusal_of, refused_by, refused_value}
+use Rattle.ucl_live_runs.proofs.Common.{serde_json_on_literals, shown_text, subst, sym, take, take_all, take_more, true, word_high}
+use Rattle.ucl_live_runs.proofs.Common.{word_valid, words_value, ℕ, ◌++◌, ◌+◌, ◌/◌, ◌<◌, ◌^◌, ◌∙◌, ◌∷◌, ◌≡◌, ◌≢◌, ◌≤◌, ◌⊎◌}
 use Rattle.ucl_rows.specs.declared.bad_row.BadField.{BadField}
 use Rattle.ucl_rows.specs.declared.bad_row.BadField.TheVariants.{Count}
 use Rattle.ucl_word.specs.declared.refusal.Refusal.TheVariants.{AlreadyStarted, Finished, LimitReached, NoCaution, NoGoal, NotFinished}
-use Rattle.ucl_word.specs.declared.refusal.Refusal.TheVariants.{NotStarted}
-use Rattle.ucl_word.specs.declared.refusal.Refusal.TheVariants.{NumberFull, Stale}
+use Rattle.ucl_word.specs.declared.refusal.Refusal.TheVariants.{NotStarted, NumberFull, Stale}
 use Rattle.ucl_json.proofs.AnswerSizes.{clubs-plain, digits-20, kind-text, match-plain, matches-plain, refusal-text, words-plain}
 use Rattle.ucl_json.proofs.PlainValues.{IsShortPlain, IsText, line-short, parsed-line, quoted-length}
 use Rattle.ucl_json.specs.Values.{accepted_value}
+use Rattle.ucl_mends.specs.MendNames.{mend_refusal_code, mend_refusal_name}
+use Rattle.ucl_mends.specs.declared.mend_refusal.MendRefusal.TheVariants.{LastEdition, NoEvent}
 
 -- the board states that the lines of a text carry, one for each line, None for a line that carries none
 abbrev pub carried_in : List ℕ → List (Option BoardState)
@@ -198,6 +200,53 @@ matches-line o row board clubs r is w =
 pub refused-line : (o : Option BoardState) (row : ℕ) (event : NightEvent) (refusal : Refusal) (m : MatchRecord)
     → row < 2 ^ 64 → HasNumbers event → IfSome (found_of refusal) (λ n. n < 2 ^ 64) → IsValid m → CarriesAtMost o (json_line (refused_value row event refusal m))
 refused-line o row event refusal m r fits f v = refused-by-line o row event refusal (found_of refusal) m r fits f v
+
+-- the answer to a mend carries no board state, if all its numbers fit 64 bits
+pub mended-line : (o : Option BoardState) (without : Option ℕ) (row left_out edition version : ℕ) → row < 2 ^ 64 → IfSome without (λ n. n < 2 ^ 64) → left_out < 2 ^ 64
+    → edition < 2 ^ 64 → version < 2 ^ 64 → CarriesAtMost o (json_line (mended_value row without left_out edition version))
+unfolding parse_board_state serde_json_on_literals
+mended-line o None row left_out edition version r w l e v =
+    silent-line (mended_value row None left_out edition version) o (record { plain = ((refl, refl), (e, (l, (refl, (r, (v, tt)))))); size = omega (arith, digits-20) }) refl
+mended-line o (Some n) row left_out edition version r w l e v =
+    silent-line (mended_value row (Some n) left_out edition version) o
+    (record { plain = ((refl, refl), (e, (l, (refl, (r, (v, (w, tt))))))); size = omega (arith, digits-20) }) refl
+
+-- the JSON line of an event that is left out carries no board state, if its numbers fit 64 bits
+pub left-out-line : (o : Option BoardState) (row : ℕ) (entry : Entry) (refusal : Refusal) → row < 2 ^ 64 → entry.game < 2 ^ 64 → entry.reporter < 2 ^ 64
+    → CarriesAtMost o (json_line (left_out_value row entry refusal))
+unfolding parse_board_state serde_json_on_literals
+left-out-line o row entry refusal r game reporter =
+    let kind = kind-text entry.kind in
+    let name = refusal-text refusal in
+    silent-line (left_out_value row entry refusal) o (record {
+      plain = ((refl, refl), (name.2, (kind.0, (game, (name.0, (refl, (reporter, (r, tt))))))));
+      size = omega (arith, digits-20, kind.1, name.1, name.2);
+    }) refl
+
+-- the name of the refusal of a mend is a text, of at most 22 bytes when quoted, and its code fits 64 bits
+mend-name : (refusal : MendRefusal) → IsText (mend_refusal_name refusal) × (length (quoted (mend_refusal_name refusal)) ≤ 22) × (mend_refusal_code refusal < 2 ^ 64)
+unfolding escape_byte
+mend-name NoEvent = (refl, omega arith, omega arith)
+mend-name LastEdition = (refl, omega arith, omega arith)
+
+-- the JSON answer to a mend that is refused carries no board state, if its row fits 64 bits
+pub mend-refused-line : (o : Option BoardState) (row : ℕ) (refusal : MendRefusal) → row < 2 ^ 64
+    → CarriesAtMost o (json_line (mend_refused_value row (mend_refusal_code refusal) (mend_refusal_name refusal)))
+unfolding parse_board_state serde_json_on_literals
+mend-refused-line o row refusal r =
+    let name = mend-name refusal in
+    silent-line (mend_refused_value row (mend_refusal_code refusal) (mend_refusal_name refusal)) o (record {
+      plain = ((refl, refl), (name.2, (name.0, (refl, (r, tt)))));
+      size = omega (arith, digits-20, name.1, name.2);
+    }) refl
+
+-- the lines of one event more that is left out are those of before, and then its own
+pub left-more : (left : List LeftOut) (i : ℕ) (out : LeftOut) (text old line : List ℕ) → i < length left → out ≡ get_or left i out → text ≡ old ++ line
+    → old ≡ left_out_lines (take i left) → line ≡ json_line (left_out_value out.event.row out.event.entry out.refusal) → text ≡ left_out_lines (take (i + 1) left)
+left-more left i out text old line below is e so_far one =
+    let line_of = λ (out : LeftOut). json_line (left_out_value out.event.row out.event.entry out.refusal) in
+    e ∙ ap₂ (λ (a b : List ℕ). a ++ b) so_far (one ∙ sym (append-nil (line_of out))) ∙ sym (flat_map-append line_of (take i left) (out ∷ []))
+    ∙ ap left_out_lines (sym (take_more left i out below ∙ ap (λ (o : LeftOut). take i left ++ o ∷ []) (sym is)))
 
 -- a refusal, if it is that of a stale event, names an event number that fits 64 bits
 record IsFound (o : Option Refusal) : Type 0 where

@@ -1,16 +1,15 @@
 -- The values of screens: the board state that they carry, and that they are plain and short.
-use Rattle.ucl_live_runs.proofs.Common.{All, All-head, All-tail, AreWords, AwayInTie, BoardState, Data, IsBoardState, IsClub, IsGroup}
-use Rattle.ucl_live_runs.proofs.Common.{IsRoster, List, NamedClub, Profile, Some, Uefa, [], and_parts, ap, arith, codes, eq-eqb, in_play}
-use Rattle.ucl_live_runs.proofs.Common.{is_name, le-leb, length, letter_in, nat_le, profile_name, profile_named, read_again, read_words}
-use Rattle.ucl_live_runs.proofs.Common.{refl, suc, version_of, ℕ, ◌<◌, ◌^◌, ◌∙◌, ◌∷◌, ◌≡◌, ◌≤◌}
+use Rattle.ucl_live_runs.proofs.Common.{All, All-head, All-tail, AreWords, AwayInTie, BoardState, IsBoardState, IsClub, IsGroup, IsRoster}
+use Rattle.ucl_live_runs.proofs.Common.{List, NamedClub, Profile, Some, Uefa, [], and_parts, ap, arith, codes, eq-eqb, in_play, is_name}
+use Rattle.ucl_live_runs.proofs.Common.{le-leb, length, letter_in, nat_le, profile_name, profile_named, read_again, read_words, refl, suc}
+use Rattle.ucl_live_runs.proofs.Common.{version_of, ℕ, ◌<◌, ◌^◌, ◌∙◌, ◌∷◌, ◌≡◌, ◌≤◌}
 use Rattle.std.specs.Prelude.{option_and_then}
 use Rattle.serde_json.proofs.OnLiterals.{serde_json_on_literals}
 use Rattle.serde_json.specs.Data.{member, no_members, number, object, string, unsigned}
-use Rattle.serde_json.specs.Find.{get}
-use Rattle.ucl_json.proofs.AnswerSizes.{clubs-plain, digits-2, digits-5, digits-20, few-in-play, group-text, matches-plain, order-text}
+use Rattle.ucl_json.proofs.AnswerSizes.{clubs-plain, digits-2, digits-20, digits-5, few-in-play, group-text, matches-plain, order-text}
 use Rattle.ucl_json.proofs.AnswerSizes.{places-plain, version-fits, words-plain}
 use Rattle.ucl_json.proofs.PlainValues.{IsShortPlain, parsed-line}
-use Rattle.ucl_json.specs.BoardLines.{edition_in, if_read, just, list_at, listed, parse_club, parse_roster, parse_word, text_at}
+use Rattle.ucl_json.specs.BoardLines.{edition_in, if_read, just, listed, parse_club, parse_roster, parse_word}
 unfoldable use Rattle.ucl_json.specs.BoardLines.{parse_board_state, parse_each}
 use Rattle.ucl_json.specs.Values.{club_items, number_value, word_items}
 unfoldable use Rattle.ucl_json.specs.Values.{edition_screen_value, screen_value}
@@ -65,38 +64,16 @@ order-back AwayInTie = refl
 edition-back : (edition : ℕ) → edition ≤ 65535 → edition_in (Some (number_value edition)) ≡ Some edition
 edition-back edition h = rw (le-leb edition 65535 h) refl
 
--- a JSON value has the members `group`, `order`, `edition`, `clubs` and `words` of this board state
-pub record Has (value : Data) (m : BoardState) : Type 0 where
-  group : text_at (codes "group") value ≡ Some (m.header.group ∷ [])
-  order : text_at (codes "order") value ≡ Some (profile_name m.header.profile)
-  edition : get (codes "edition") value ≡ Some (number_value m.header.edition)
-  clubs : list_at (codes "clubs") value ≡ Some (listed (club_items m.roster))
-  words : list_at (codes "words") value ≡ Some (listed (word_items m.board))
-
--- a value with the members of a board state is read as just that board state
-tells : (value : Data) (m : BoardState) → IsBoardState m → Has value m → parse_board_state value ≡ Some m
-unfolding parse_board_state
-tells value m is has = rw (
-  has.group,
-  letter-back m.header.group is.letter,
-  has.order,
-  order-back m.header.profile,
-  has.edition,
-  edition-back m.header.edition is.edition,
-  has.clubs,
-  clubs-back m.roster is.clubs,
-  has.words,
-  board-back m.board is.words is.bits,
-) refl
-
--- the JSON value of a screen has the members of the board state that it was made from
-pub screen-has : (row : ℕ) (m : BoardState) → Has (screen_of row m) m
-unfolding edition_screen_value screen_value serde_json_on_literals
-screen-has row m = record { group = refl; order = refl; edition = refl; clubs = refl; words = refl }
-
 -- a screen tells the board state that it was written from
 pub screen-back : (row : ℕ) (m : BoardState) → IsBoardState m → parse_board_state (screen_of row m) ≡ Some m
-screen-back row m is = tells (screen_of row m) m is (screen-has row m)
+unfolding parse_board_state edition_screen_value screen_value serde_json_on_literals
+screen-back row m is = rw (
+  letter-back m.header.group is.letter,
+  order-back m.header.profile,
+  edition-back m.header.edition is.edition,
+  clubs-back m.roster is.clubs,
+  board-back m.board is.words is.bits,
+) refl
 
 pub answered : ScreensTellTheirBoardState
 unfolding ScreensTellTheirBoardState

@@ -1,22 +1,22 @@
 -- The events that stand on the board of a session, and what it answers to its lines.
-use Rattle.ucl_live_runs.proofs.Common.{All, All-append, All-cons, All-get_or, All-nil, All-set, AreWords, As, Attempt, AwaitingClubs, AwaitingHeader, Bad}
-use Rattle.ucl_live_runs.proofs.Common.{BoardHeader, BoardsTakeEvents, Club, Entry, Err, Event, EventCall, Format, FourFields, IfSome}
-use Rattle.ucl_live_runs.proofs.Common.{IsAttempt, IsClub, IsLegal, IsLegalAt, IsRoster, IsValid, IsWord, Json, Kind, List, LiveArgs, MatchRecord}
+use Rattle.ucl_live_runs.proofs.Common.{Accepted, All, All-append, All-cons, All-nil, All-set, AreWords, As, AwaitingClubs, AwaitingHeader}
+use Rattle.ucl_live_runs.proofs.Common.{Bad, BoardHeader, BoardsTakeEvents, Club, Entry, Err, Event, Format, FourFields, IfSome, IsAttempt}
+use Rattle.ucl_live_runs.proofs.Common.{IsClub, IsLegal, IsLegalAt, IsMatch, IsReporter, IsRoster, Json, Kind, List, LiveArgs, MatchRecord}
 use Rattle.ucl_live_runs.proofs.Common.{Matches, MayFollow, Mend, Mends, NamedClub, NightEvent, None, NoneMends, Nothing, Ok, Open, Option}
 use Rattle.ucl_live_runs.proofs.Common.{OtherGroup, Reached, Refusal, RefusedSessionsAreSilent, RepliesAreThoseOfFeed, Request, Result, Row}
 use Rattle.ucl_live_runs.proofs.Common.{Said, Screen, Session, SessionsAreSequential, Some, StandingEvent, Without, Words, [], after}
-use Rattle.ucl_live_runs.proofs.Common.{after_attempt, after_beginning, after_club, after_header, after_lines, and_parts, answer_at}
+use Rattle.ucl_live_runs.proofs.Common.{after_attempt, after_beginning, after_club, after_header, after_lines, and_parts, answer, answer_at}
 use Rattle.ucl_live_runs.proofs.Common.{answer_by_history, answer_of, answer_said, answers, answers_by_history, ap, ap₂, arith, asked_by}
-use Rattle.ucl_live_runs.proofs.Common.{attempt_of, attempts_from, attempts_in, attempts_of, bad_field, bad_slot, bad_slot_from}
-use Rattle.ucl_live_runs.proofs.Common.{board_after, board_of, cases_Bool, club_said, clubs_after, codes, cond_both, cond_some}
-use Rattle.ucl_live_runs.proofs.Common.{edition_after, edition_by, edition_reply, eqb-true, event_of, event_or_mend, events_after}
-use Rattle.ucl_live_runs.proofs.Common.{events_in, false, fold, fold-append, game_at, get_or, has_row, header_said, history_in}
-use Rattle.ucl_live_runs.proofs.Common.{if◌then◌else◌, in_range, inl, inr, is_asked, is_club, is_group_row, is_mend, is_ok, kind_named}
-use Rattle.ucl_live_runs.proofs.Common.{leb-true, length, length-map, length-set, line_by_history, may_none, mend_by, mend_or_bad, moved}
-use Rattle.ucl_live_runs.proofs.Common.{nat_le, nat_tests, next, open_at, record_at, record_back, refl, refusal_of}
-use Rattle.ucl_live_runs.proofs.Common.{reply_answer, reply_by_history, request_of, request_stage, said_on, same_Some, screen_after}
-use Rattle.ucl_live_runs.proofs.Common.{sequential_reply, set, shown_by, shown_text, slot_in, stage, subst, sum_by-set, sym, version_of}
-use Rattle.ucl_live_runs.proofs.Common.{with_roster, word_of, word_valid, ℕ, ⊤, ◌&&◌, ◌++◌, ◌+◌, ◌-◌, ◌<◌, ◌==◌, ◌>>=◌, ◌∙◌, ◌∷◌, ◌≡◌, ◌≤◌}
+use Rattle.ucl_live_runs.proofs.Common.{attempt_of, attempts_from, attempts_in, attempts_of, bad_field, bad_slot, bad_slot_from, board_in}
+use Rattle.ucl_live_runs.proofs.Common.{board_of, board_words, cases_Bool, club_said, clubs_after, codes, cond_both, edition_after}
+use Rattle.ucl_live_runs.proofs.Common.{edition_by, edition_reply, entered, eqb-true, event_of, event_or_mend, events_after, events_in}
+use Rattle.ucl_live_runs.proofs.Common.{false, fold, fold-append, game_after, game_at, has_row, header_said, history_in, if◌then◌else◌}
+use Rattle.ucl_live_runs.proofs.Common.{in_range, inl, inr, is_asked, is_club, is_group_row, is_mend, is_ok, kind_named, leb-true, length}
+use Rattle.ucl_live_runs.proofs.Common.{length-append, length-map, length-set, line_by_history, may_none, mend_by, mend_or_bad, moved}
+use Rattle.ucl_live_runs.proofs.Common.{nat_le, nat_tests, next, open_at, refl, refusal_of, reply_answer, reply_by_history, request_of}
+use Rattle.ucl_live_runs.proofs.Common.{request_stage, said_on, screen_after, sequential_reply, shown_by, shown_text, slot_in, stage}
+use Rattle.ucl_live_runs.proofs.Common.{standing_of, subst, sym, version_of, with_roster, ℕ, ⊤, ◌&&◌, ◌++◌, ◌+◌, ◌-◌, ◌<◌, ◌==◌, ◌>>=◌, ◌∙◌}
+use Rattle.ucl_live_runs.proofs.Common.{◌∷◌, ◌≡◌, ◌≤◌}
 use Rattle.std.specs.Prelude.{IfErr, IfOk, nat_lt, not, option_map, true}
 use Rattle.std.specs.Str.{bytes_eq}
 use Rattle.ucl_command.specs.declared.options.Format.TheVariants.{Text}
@@ -24,14 +24,14 @@ use Rattle.ucl_order.proofs.Clubs.{good_four}
 use Rattle.ucl_rows.specs.Lines.{reply_line}
 use Rattle.ucl_screen.specs.Numbers.{number}
 use Rattle.ucl_screen.specs.Script.{club_of}
-use Rattle.ucl_word.proofs.AcceptedEvents.{accepts, after_number, after_valid}
 use Rattle.ucl_live_runs.specs.LiveTheorems.{entered_by}
 use Rattle.ucl_live_runs.specs.NewClubs.{ClubInSlot, club_for}
 use Rattle.ucl_live_runs.specs.Requests.{if_club, named_mend, named_row, new_club}
 unfoldable use Rattle.ucl_mends.specs.MendTheorems.{MendsAreLegal}
-use Rattle.ucl_live_runs.proofs.Entered.{entered-history}
 use Rattle.ucl_live_runs.proofs.Lines.{is_open, on-board, silent}
-use Rattle.ucl_mends.proofs.Mends.{mends_legal}
+use Rattle.ucl_mends.proofs.Mends.{few, history-more, mends_legal}
+use Rattle.ucl_board.specs.History.{match_after}
+use Rattle.ucl_word.specs.declared.event.EventCall.{EventCall}
 
 -- four times the same club are a roster only if it is one that a roster takes
 four-good : (club : NamedClub) → bad_slot (club ∷ club ∷ club ∷ club ∷ []) ≡ None → is_club club ≡ true
@@ -53,78 +53,59 @@ pub by-four : {B : Type 0} (r : Result (List NamedClub) B) (club : NamedClub) (s
 by-four (Ok roster) club slot_of good bad = sym (four-good club good.1)
 by-four (Err b) club slot_of good bad = sym (four-bad club (slot_of b) bad)
 
--- a valid word put among the words of a board leaves the words of a board
-set-words : (words : List ℕ) (i word : ℕ) → AreWords words → IsWord word → AreWords (set words i word)
-set-words words i word w is = record { twelve = length-set words i word ∙ w.twelve; each = All-set IsWord words i word is w.each }
+-- after an event is entered, the history of the events that stand is that of before, after the attempt to enter it
+pub entered-history : (row : ℕ) (events : List StandingEvent) (event : NightEvent) → history_in (entered row events event) ≡ after_attempt (history_in events) (attempt_of event)
+entered-history row events event = elim (cases_Bool (is_ok (sequential_reply (history_in events) event.call))) [
+  | inl y ↦ rw y (history-more events (standing_of row event ∷ []))
+  | inr n ↦ rw n refl
+]
 
--- an attempt on such a board
-module _ (words : List ℕ) (a : Attempt) (w : AreWords words) (is : IsAttempt a) where
-  within : a.call.game - 1 < length words
-  within = let t = w.twelve in let r = is.1 in omega (arith, t, r)
+-- the history of the events that stand stays legal when an event is entered, if its reporter and match exist
+pub entered-legal : (row : ℕ) (events : List StandingEvent) (event : NightEvent) → IsLegal (history_in events) → IsAttempt (attempt_of event)
+    → IsLegal (history_in (entered row events event))
+entered-legal row events event legal is =
+    subst IsLegal (sym (entered-history row events event)) (attempts_from (history_in events) (attempt_of event ∷ []) legal (All-cons IsAttempt (attempt_of event) [] is (All-nil IsAttempt))).0
 
-  is-valid : IsValid (game_at words a.call.game)
-  is-valid = word_valid (get_or words (a.call.game - 1) 0) (All-get_or IsWord words (a.call.game - 1) 0 within w.each)
+-- what holds of the reply to an event, and of the board of the events that stand after it, if it holds where the event is accepted, and the
+-- version is one more, and where it is refused
+module _ (P : Result Accepted Refusal → List ℕ → Type 0) (row : ℕ) (events : List StandingEvent) (event : NightEvent)
+    (legal : IsLegal (history_in events)) (is : IsAttempt (attempt_of event)) where
+  abbrev game : MatchRecord
+  game = game_at (board_in events) event.call.game
 
-  valid-after : refusal_of (game_at words a.call.game) a.call.expected a.call.kind ≡ None → IsValid (after (game_at words a.call.game) a.reporter a.call.kind)
-  valid-after e = after_valid (game_at words a.call.game) a.reporter a.call.expected a.call.kind is-valid is.0 (accepts (game_at words a.call.game) a.call.expected a.call.kind e)
+  abbrev here : MatchRecord
+  here = match_after (history_in events) event.call.game
 
-  after-by : (o : Option Refusal) → refusal_of (game_at words a.call.game) a.call.expected a.call.kind ≡ o → AreWords (board_after words a)
-  after-by None e =
-      let m = after (game_at words a.call.game) a.reporter a.call.kind in
-      rw e (set-words words (a.call.game - 1) (word_of m) w (record { of = m; valid = valid-after e; packed = refl }))
-  after-by (Some r) e = rw e w
+  abbrev more : List StandingEvent
+  more = events ++ standing_of row event ∷ []
 
-  -- the board after an attempt has the words of a board
-  pub good-after : AreWords (board_after words a)
-  good-after = after-by (refusal_of (game_at words a.call.game) a.call.expected a.call.kind) refl
+  pub by-reply : (AreWords (board_in more) → version_of (board_in more) ≡ version_of (board_in events) + 1
+      → P (answer game.number None) (board_in more))
+      → ((refusal : Refusal) → refusal_of game event.call.expected event.call.kind ≡ Some refusal → P (Err refusal) (board_in events))
+      → P (sequential_reply (history_in events) event.call) (board_in (entered row events event))
+  by-reply accepted refused = by (refusal_of here event.call.expected event.call.kind) refl
+    where
+      same : game ≡ here
+      same = game_after (history_in events) event.call.game legal is.1
 
-  -- if the event is accepted, the version is one more
-  pub version-after : refusal_of (game_at words a.call.game) a.call.expected a.call.kind ≡ None → version_of (board_after words a) ≡ version_of words + 1
-  version-after e =
-      let n = after (game_at words a.call.game) a.reporter a.call.kind in
-      let sum = sum_by-set (λ (word : ℕ). (record_at word).number) words (a.call.game - 1) (word_of n) 0 within in
-      let more : (record_at (word_of n)).number ≡ (game_at words a.call.game).number + 1 =
-      ap (λ (r : MatchRecord). r.number) (record_back n (valid-after e)) ∙ after_number (game_at words a.call.game) a.reporter a.call.kind in
-      rw e (omega (arith, sum, more))
+      by : (o : Option Refusal) → refusal_of here event.call.expected event.call.kind ≡ o
+          → P (sequential_reply (history_in events) event.call) (board_in (entered row events event))
+      by None none =
+          let legal_more : IsLegal (history_in more) = rw none at (entered-legal row events event legal is) in
+          let new = few more legal_more in
+          let old = few events legal in
+          let long = length-append events (standing_of row event ∷ []) in
+          rw none (subst (λ (m : MatchRecord). P (answer m.number None) (board_in more)) same
+          (accepted (board_words (history_in more) legal_more) (omega (arith, new.0, old.0, long))))
+      by (Some refusal) some =
+          rw some (refused refusal (ap (λ (m : MatchRecord). refusal_of m event.call.expected event.call.kind) same ∙ some))
 
--- a number that is read within limits is within them
-pub ranged : (low high : ℕ) (o : Option ℕ) (n : ℕ) → in_range low high o ≡ Some n → (low ≤ n) × (n ≤ high)
-ranged low high None n h = cc
-ranged low high (Some m) n h =
-    let p = cond_some (nat_le low m && nat_le m high) m n h in
-    let within = p.0 in rw (← p.1) (grind (arith, nat_tests), grind (arith, nat_tests))
-
--- the event that these fields of a row make, if each was read
-abbrev call_made : Option ℕ → Option ℕ → Option Kind → Option EventCall
-call_made b c d = do
-  game ← b
-  expected ← c
-  kind ← d
-  Some (record { game = game; expected = expected; kind = kind })
-
--- the event and its reporter that these fields of a row make, if each was read
-abbrev made : Option ℕ → Option ℕ → Option ℕ → Option Kind → Option NightEvent
-made a b c d = do
-  reporter ← a
-  call ← call_made b c d
-  Some (record { reporter = reporter; call = call })
-
--- an event that was made of fields has what was read of them
-parts : (a b c : Option ℕ) (d : Option Kind) (e : NightEvent) → made a b c d ≡ Some e
-    → (a ≡ Some e.reporter) × (b ≡ Some e.call.game) × (c ≡ Some e.call.expected)
-parts (Some a) (Some b) (Some c) (Some d) e h =
-    let same = same_Some (record { reporter = a; call = record { game = b; expected = c; kind = d } }) e h in
-    (ap (λ (x : NightEvent). Some x.reporter) same, ap (λ (x : NightEvent). Some x.call.game) same, ap (λ (x : NightEvent). Some x.call.expected) same)
-parts a b c d e h = cc
-
--- an event that a row enters is of a reporter and a match that there are, and expects a number of 16 bits
-pub event-numbers : (f : FourFields) (e : NightEvent) → event_of f ≡ Some e → IsAttempt (attempt_of e) × (e.call.expected ≤ 65535)
-event-numbers f e h =
-    let p = parts (in_range 1 255 (number 3 f.first)) (in_range 1 12 (number 2 f.second)) (in_range 0 65535 (number 5 f.third))
-    (kind_named f.fourth) e h in (
-      (ranged 1 255 (number 3 f.first) e.reporter p.0, ranged 1 12 (number 2 f.second) e.call.game p.1),
-      (ranged 0 65535 (number 5 f.third) e.call.expected p.2).1,
-    )
+-- a number that is read within limits, if any, is within them
+pub in-limits : (low high : ℕ) (o : Option ℕ) → IfSome (in_range low high o) (λ n. (low ≤ n) × (n ≤ high))
+in-limits low high None = tt
+in-limits low high (Some n) =
+    cond_both (nat_le low n && nat_le n high) (Some n) None (λ (x : Option ℕ). IfSome x (λ k. (low ≤ k) × (k ≤ high)))
+    (λ y. let p = and_parts (nat_le low n) (nat_le n high) y in (leb-true low n p.0, leb-true n high p.1)) (λ _. tt)
 
 -- a request whose numbers are in range: its reporter and its match exist, an event number or an edition has 16 bits, a row 32
 abbrev pub IsPossible : Request → Type 0
@@ -146,34 +127,48 @@ module _ (P : Request → Type 0) where
       (λ _. cond_both (bytes_eq f.first (codes "words")) Words or_bad P (λ _. words)
       (λ _. cond_both (bytes_eq f.first (codes "matches")) Matches (Bad (bad_field f)) P (λ _. matches) (λ _. bad)))) (λ _. event)
 
+-- the event that these fields of a row make, if each was read
+abbrev call_made : Option ℕ → Option ℕ → Option Kind → Option EventCall
+call_made b c d = do
+  game ← b
+  expected ← c
+  kind ← d
+  Some (record { game = game; expected = expected; kind = kind })
+
+-- the event and its reporter that these fields of a row make, if each was read
+abbrev made : Option ℕ → Option ℕ → Option ℕ → Option Kind → Option NightEvent
+made a b c d = do
+  reporter ← a
+  call ← call_made b c d
+  Some (record { reporter = reporter; call = call })
+
+-- the event that a row enters, if any, has its numbers in range, if those of its fields were read within these limits
+made-of : (a b c : Option ℕ) (d : Option Kind) → IfSome a IsReporter → IfSome b IsMatch → IfSome c (λ n. (0 ≤ n) × (n ≤ 65535))
+    → IfSome (made a b c d) (λ e. IsPossible (Event e))
+made-of (Some a) (Some b) (Some c) (Some d) r m e = ((r, m), e.1)
+made-of _ _ _ _ r m e = tt
+
 -- no mend, or one whose numbers are in range
 abbrev IsNamed : Option Mend → Type 0
-IsNamed None = ⊤
-IsNamed (Some mend) = IsPossible (Mends mend)
+IsNamed o = IfSome o (λ mend. IsPossible (Mends mend))
 
--- a number that is read within limits, if any, is at most the upper limit
-small-in : (low high : ℕ) (o : Option ℕ) → IfSome (in_range low high o) (λ n. n ≤ high)
-small-in low high None = tt
-small-in low high (Some n) = cond_both (nat_le low n && nat_le n high) (Some n) None (λ (x : Option ℕ). IfSome x (λ k. k ≤ high))
-    (λ y. leb-true n high (and_parts (nat_le low n) (nat_le n high) y).1) (λ _. tt)
-
--- a mend that names a row of 32 bits has its numbers in range; for None there is no mend
-named-row : (o : Option ℕ) → IfSome o (λ n. n ≤ 4294967295) → IsNamed (option_map Without o)
-named-row None h = tt
-named-row (Some n) h = h
-
--- a mend to an edition of 16 bits has its numbers in range; for None there is no mend
-named-edition : (o : Option ℕ) → IfSome o (λ n. n ≤ 65535) → IsNamed (option_map As o)
-named-edition None h = tt
-named-edition (Some n) h = h
+-- the mend that a number makes, if one was read within limits, has its numbers in range
+mend-of : (make : ℕ → Mend) (low high : ℕ) (o : Option ℕ) → ((n : ℕ) → n ≤ high → IsPossible (Mends (make n)))
+    → IsNamed (option_map make (in_range low high o))
+mend-of make low high o is = by (in_range low high o) (in-limits low high o)
+  where
+    by : (x : Option ℕ) → IfSome x (λ n. (low ≤ n) × (n ≤ high)) → IsNamed (option_map make x)
+    by None h = tt
+    by (Some n) h = is n h.1
 
 -- the mend that a row of the kind `mend` names, by a row or an edition, if any, has its numbers in range
 named : (f : FourFields) → IsNamed (named_mend f)
 named f =
     let to_edition = if length f.second == 0 then option_map As (edition_by f.third) else None in
     cond_both (length f.third == 0) (option_map Without (named_row f.second)) to_edition IsNamed
-    (λ _. named-row (named_row f.second) (small-in 1 4294967295 (number 10 f.second)))
-    (λ _. cond_both (length f.second == 0) (option_map As (edition_by f.third)) None IsNamed (λ _. named-edition (edition_by f.third) (small-in 0 65535 (number 5 f.third))) (λ _. tt))
+    (λ _. mend-of Without 1 4294967295 (number 10 f.second) (λ n h. h))
+    (λ _. cond_both (length f.second == 0) (option_map As (edition_by f.third)) None IsNamed
+    (λ _. mend-of As 0 65535 (number 5 f.third) (λ n h. h)) (λ _. tt))
 
 -- a club that a row names for a slot, if any, is one that a roster takes
 named-club : (slot : Option ℕ) (f : FourFields) → IsNamed (option_map Club (slot >>= λ slot. club_of slot f >>= λ club. if_club slot club))
@@ -196,14 +191,20 @@ possible-mend : (f : FourFields) (o : Option Mend) → IsNamed o → IsPossible 
 possible-mend f None h = tt
 possible-mend f (Some mend) h = h
 
--- the request of a row that enters an event, or else mends or is bad, has its numbers in range
-possible-event : (f : FourFields) (o : Option NightEvent) → event_of f ≡ o → IsPossible (event_or_mend f o)
-possible-event f None is = possible-mend f (mend_by f) (named-by f)
-possible-event f (Some e) is = event-numbers f e is
+-- the request of a row that enters an event, or else mends or is bad, has its numbers in range, if the event has
+possible-event : (f : FourFields) (o : Option NightEvent) → IfSome o (λ e. IsPossible (Event e)) → IsPossible (event_or_mend f o)
+possible-event f None h = possible-mend f (mend_by f) (named-by f)
+possible-event f (Some e) h = h
 
 -- each request that a line makes has its numbers in range
 pub possible : (r : Said) → IsPossible (request_of r)
-possible (Row f) = asked-by IsPossible f tt tt tt tt (possible-event f (event_of f) refl)
+possible (Row f) =
+    let reporter = number 3 f.first in
+    let game = number 2 f.second in
+    let expected = number 5 f.third in
+    asked-by IsPossible f tt tt tt tt (possible-event f (event_of f)
+    (made-of (in_range 1 255 reporter) (in_range 1 12 game) (in_range 0 65535 expected) (kind_named f.fourth)
+    (in-limits 1 255 reporter) (in-limits 1 12 game) (in-limits 0 65535 expected)))
 possible _ = tt
 
 -- what a line attempts is of a reporter and a match that there are

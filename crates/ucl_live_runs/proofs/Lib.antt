@@ -2,11 +2,9 @@ pub mod Common
 pub mod Boards
 pub mod Lines
 pub mod FollowShown
-pub mod Entered
 pub mod Runs
 pub mod AnswerValues
 pub mod AnswerLines
-pub mod MendLines
 pub mod Told
 pub mod RecordEnds
 pub mod Moments

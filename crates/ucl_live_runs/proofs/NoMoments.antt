@@ -1,15 +1,14 @@
 -- What is not of the form of moments of a record: an older board state after a newer one, and a mixture of two moments.
-use Rattle.ucl_live_runs.proofs.Common.{All, All-cons, All-contains, All-head, All-nil, All-tail, BoardState, Contains}
-use Rattle.ucl_live_runs.proofs.Common.{Contains-append_right, Event, IsNoFall, Json, List, LiveArgs, MixturesAreRefused, NamedClub, NeverFall}
-use Rattle.ucl_live_runs.proofs.Common.{NightEvent, OlderMomentsAreRefused, Option, Row, Session, Some, StandingEvent, [], after_lines, ap, ap₂, arith}
-use Rattle.ucl_live_runs.proofs.Common.{asked_by, asked_header, board_state_now, board_state_of_moment, board_state_with, board_in, cases_lt, codes, entered, get_or}
-use Rattle.ucl_live_runs.proofs.Common.{inl, inr, lines_of, map, map-append, mixture, moment, named, open_at, refl, request_of}
-use Rattle.ucl_live_runs.proofs.Common.{same_Some, said_by_text, said_on, standing_of, start_of, subst, suc, sym, take, two_kickoffs, version_of, ℕ}
-use Rattle.ucl_live_runs.proofs.Common.{◌++◌, ◌<◌, ◌∙◌, ◌∷◌, ◌≡◌}
+use Rattle.ucl_live_runs.proofs.Common.{All, All-contains, BoardState, Contains, Contains-append_right, Event, Json, List, LiveArgs}
+use Rattle.ucl_live_runs.proofs.Common.{MixturesAreRefused, NamedClub, NightEvent, OlderMomentsAreRefused, Option, Row, Said, Session, Some}
+use Rattle.ucl_live_runs.proofs.Common.{StandingEvent, [], after_lines, ap, ap₂, arith, asked_by, asked_header, bad_slot_from, begun_line}
+use Rattle.ucl_live_runs.proofs.Common.{board_in, board_state_now, board_state_of_moment, board_state_with, cases_lt, codes, ended_lines}
+use Rattle.ucl_live_runs.proofs.Common.{entered, get_or, inl, inr, is_club, lines_of, map, mixture, moment, named, open_at, refl}
+use Rattle.ucl_live_runs.proofs.Common.{refusal_of, request_of, said_by_text, said_on, same_Some, standing_of, start_of, suc, sym, take}
+use Rattle.ucl_live_runs.proofs.Common.{two_kickoffs, version_of, ℕ, ◌++◌, ◌<◌, ◌∙◌, ◌∷◌, ◌≡◌}
 use Rattle.std.proofs.lemmas.List.Kept.{AllPairs-from_increasing}
 use Rattle.std.specs.List.{AllPairs}
 use Rattle.std.proofs.Common.{drop}
-use Rattle.ucl_live_runs.proofs.Common.{Said, bad_slot_from, begun_line, ended_lines, is_club, refusal_of}
 unfoldable use Rattle.ucl_board.specs.History.{board_of}
 unfoldable use Rattle.ucl_word.specs.Layout.{record_at, word_of}
 unfoldable use Rattle.ucl_word.specs.Rules.{after}
@@ -21,61 +20,55 @@ unfoldable use Rattle.ucl_word.specs.Names.{kind_named}
 use Rattle.ucl_word.specs.declared.event.Kind.TheVariants.{KickOff}
 use Rattle.ucl_live_runs.proofs.FollowShown.{not-itself, one-way}
 use Rattle.ucl_live_runs.proofs.Moments.{rises}
-use Rattle.ucl_live_runs.proofs.RecordEnds.{Carried, IsReady, IsUpTo, older, ready}
+use Rattle.ucl_live_runs.proofs.RecordEnds.{IsReady, IsUpTo, older as older-of, ready}
 
--- a number is less than each of some numbers, and each of these less than those after it
-abbrev Rising : ℕ → List ℕ → Type 0
-Rising p ps = All (λ q. p < q) ps
+-- numbers of which each is less than those after it
+abbrev Rise : List ℕ → Type 0
+Rise places = AllPairs (λ x y. x < y) places
 
-first-pairs : (p : ℕ) (ps : List ℕ) → AllPairs (λ x y. x < y) (p ∷ ps) → Rising p ps
-first-pairs p ps pairs k d few = pairs 0 (suc k) d (omega arith) (omega (arith, few))
+-- the first of numbers that rise is less than each other
+first-below : (p : ℕ) (places : List ℕ) → Rise (p ∷ places) → All (λ q. p < q) places
+first-below p places pairs k d few = pairs 0 (suc k) d (omega arith) (omega (arith, few))
 
-fewer-pairs : (p : ℕ) (ps : List ℕ) → AllPairs (λ x y. x < y) (p ∷ ps) → AllPairs (λ x y. x < y) ps
-fewer-pairs p ps pairs i j d less few = pairs (suc i) (suc j) d (omega (arith, less)) (omega (arith, few))
+-- numbers that rise do so without the first
+rest-rises : (p : ℕ) (places : List ℕ) → Rise (p ∷ places) → Rise places
+rest-rises p places pairs i j d less few = pairs (suc i) (suc j) d (omega (arith, less)) (omega (arith, few))
 
--- board states of moments at rising places never fall
-module _ (options : LiveArgs) (rows : List ℕ) (is : IsReady (start_of options) (lines_of rows)) where
+-- board states of moments of a record
+module _ (options : LiveArgs) (rows : List ℕ) where
   abbrev state_at : ℕ → Option BoardState
   state_at = board_state_of_moment options rows
 
-  up : (p q : ℕ) (a b : BoardState) → p < q → state_at p ≡ Some a → state_at q ≡ Some b → IsNoFall (Some a) (Some b)
-  up p q a b less h k = elim (rises options rows is p q a b (omega (arith, less)) h k) [ inl same ↦ inl same | inr behind ↦ inr (older b a behind) ]
+  -- each of them is that of one of the places, wherever it stands among them
+  one-of : (places : List ℕ) (before after : List BoardState) (m : BoardState) → map Some (before ++ m ∷ after) ≡ map state_at places
+      → (place : ℕ) × Contains places place × (state_at place ≡ Some m)
+  one-of [] [] after m same = cc
+  one-of (p ∷ places) [] after m same = (p, (0, omega arith, refl), cc)
+  one-of [] (n ∷ before) after m same = cc
+  one-of (p ∷ places) (n ∷ before) after m same =
+      let one = one-of places before after m cc in (one.0, Contains-append_right (p ∷ []) places one.0 one.1, one.2)
 
-  up-all : (p : ℕ) (a : BoardState) (ps : List ℕ) (ms : List BoardState) → state_at p ≡ Some a → Rising p ps → map Some ms ≡ map state_at ps
-      → All (IsNoFall (Some a)) (map Some ms)
-  up-all p a ps [] h more same = All-nil (IsNoFall (Some a))
-  up-all p a [] (m ∷ ms) h more same = cc
-  up-all p a (q ∷ ps) (m ∷ ms) h more same =
-      All-cons (IsNoFall (Some a)) (Some m) (map Some ms) (up p q a m (All-head (λ q. p < q) q ps more) h cc) (up-all p a ps ms h (All-tail (λ q. p < q) q ps more) cc)
-
-  falls-not : (ps : List ℕ) (ms : List BoardState) → AllPairs (λ x y. x < y) ps → map Some ms ≡ map state_at ps → NeverFall (map Some ms)
-  unfolding NeverFall
-  falls-not ps [] pairs same = tt
-  falls-not [] (m ∷ ms) pairs same = cc
-  falls-not (p ∷ ps) (m ∷ ms) pairs same =
-      let here : state_at p ≡ Some m = cc in
-      let rest : map Some ms ≡ map state_at ps = cc in (up-all p m ps ms here (first-pairs p ps pairs) rest, falls-not ps ms (fewer-pairs p ps pairs) rest)
-
--- if a list of board states never falls, its rest does not
-fall-rest : (a b : Carried) → NeverFall (a ++ b) → NeverFall b
-unfolding NeverFall
-fall-rest [] b h = h
-fall-rest (o ∷ a) b h = fall-rest a b h.1
+  -- of two of them the first is that of a lower place, if the places rise
+  two-of : (places : List ℕ) (before between after : List BoardState) (m o : BoardState) → Rise places
+      → map Some (before ++ m ∷ (between ++ o ∷ after)) ≡ map state_at places
+      → (p : ℕ) × (q : ℕ) × (p < q) × (state_at p ≡ Some m) × (state_at q ≡ Some o)
+  two-of [] [] between after m o pairs same = cc
+  two-of (p ∷ places) [] between after m o pairs same =
+      let later = one-of places between after o cc in
+      (p, later.0, All-contains (λ q. p < q) places later.0 (first-below p places pairs) later.1, cc, later.2)
+  two-of [] (n ∷ before) between after m o pairs same = cc
+  two-of (p ∷ places) (n ∷ before) between after m o pairs same = two-of places before between after m o (rest-rises p places pairs) cc
 
 -- an older board state after a newer one is not of this form
 pub no-older : OlderMomentsAreRefused
-unfolding OlderMomentsAreRefused NeverFall
+unfolding OlderMomentsAreRefused
 no-older options rows places before between after newer older json short later are =
-    let rest = between ++ older ∷ after in
-    let fall = falls-not options rows (ready options rows json short) places (before ++ newer ∷ rest) (AllPairs-from_increasing places are.rising) are.same in
-    let from = fall-rest (map Some before) (map Some (newer ∷ rest)) (subst NeverFall (map-append Some before (newer ∷ rest)) fall) in
-    let there : Contains (map Some rest) (Some older) = rw (map-append Some between (older ∷ after))
-    (Contains-append_right (map Some between) (map Some (older ∷ after)) (Some older) (0, omega arith, refl)) in
-    no (All-contains (IsNoFall (Some newer)) (map Some rest) (Some older) from.0 there)
+    let two = two-of options rows places before between after newer older (AllPairs-from_increasing places are.rising) are.same in
+    no (rises options rows (ready options rows json short) two.0 two.1 newer older (let less = two.2 in omega arith) two.3 two.4)
   where
-    no : IsNoFall (Some newer) (Some older) → ⊥
+    no : IsUpTo newer older → ⊥
     no (inl same) = cc (later, same, not-itself older)
-    no (inr is) = cc (later, one-way older newer is.1)
+    no (inr behind) = cc (later, one-way older newer (older-of older newer behind).1)
 
 -- ---- the record of two kickoffs
 
@@ -109,57 +102,38 @@ cut : lines_of two_kickoffs ≡ codes "club,1,A,0" ∷ codes "club,2,B,0" ∷ co
 unfolding ended_lines begun_line
 cut = refl
 
-said-1 : said_on 1 (codes "club,1,A,0") ≡ row_of (codes "club") (codes "1") (codes "A") (codes "0")
+-- what its rows say
+said : (said_on 1 (codes "club,1,A,0") ≡ row_of (codes "club") (codes "1") (codes "A") (codes "0"))
+    × (said_on 2 (codes "club,2,B,0") ≡ row_of (codes "club") (codes "2") (codes "B") (codes "0"))
+    × (said_on 3 (codes "club,3,C,0") ≡ row_of (codes "club") (codes "3") (codes "C") (codes "0"))
+    × (said_on 4 (codes "club,4,D,0") ≡ row_of (codes "club") (codes "4") (codes "D") (codes "0"))
+    × (said_on 5 (codes "1,1,0,kickoff") ≡ row_of (codes "1") (codes "1") (codes "0") (codes "kickoff"))
+    × (said_on 6 (codes "1,7,0,kickoff") ≡ row_of (codes "1") (codes "7") (codes "0") (codes "kickoff"))
 unfolding said_by_text records_from next_record strip_bom
-said-1 = refl
+said = (refl, refl, refl, refl, refl, refl)
 
-said-2 : said_on 2 (codes "club,2,B,0") ≡ row_of (codes "club") (codes "2") (codes "B") (codes "0")
-unfolding said_by_text records_from next_record
-said-2 = refl
-
-said-3 : said_on 3 (codes "club,3,C,0") ≡ row_of (codes "club") (codes "3") (codes "C") (codes "0")
-unfolding said_by_text records_from next_record
-said-3 = refl
-
-said-4 : said_on 4 (codes "club,4,D,0") ≡ row_of (codes "club") (codes "4") (codes "D") (codes "0")
-unfolding said_by_text records_from next_record
-said-4 = refl
-
-said-5 : said_on 5 (codes "1,1,0,kickoff") ≡ row_of (codes "1") (codes "1") (codes "0") (codes "kickoff")
-unfolding said_by_text records_from next_record
-said-5 = refl
-
-said-6 : said_on 6 (codes "1,7,0,kickoff") ≡ row_of (codes "1") (codes "7") (codes "0") (codes "kickoff")
-unfolding said_by_text records_from next_record
-said-6 = refl
-
-asks-5 : request_of (row_of (codes "1") (codes "1") (codes "0") (codes "kickoff")) ≡ Event (kickoff_of 1)
+-- what the rows of the two kickoffs ask for
+asks : (request_of (row_of (codes "1") (codes "1") (codes "0") (codes "kickoff")) ≡ Event (kickoff_of 1))
+    × (request_of (row_of (codes "1") (codes "7") (codes "0") (codes "kickoff")) ≡ Event (kickoff_of 7))
 unfolding asked_by digits_after kind_named
-asks-5 = refl
+asks = (refl, refl)
 
-asks-6 : request_of (row_of (codes "1") (codes "7") (codes "0") (codes "kickoff")) ≡ Event (kickoff_of 7)
-unfolding asked_by digits_after kind_named
-asks-6 = refl
-
-enters-5 : entered 5 [] (kickoff_of 1) ≡ one
+-- the events that stand after them
+enters : (entered 5 [] (kickoff_of 1) ≡ one) × (entered 6 one (kickoff_of 7) ≡ both)
 unfolding counted_match refusal_of
-enters-5 = refl
-
-enters-6 : entered 6 one (kickoff_of 7) ≡ both
-unfolding counted_match refusal_of
-enters-6 = refl
+enters = (refl, refl)
 
 at-4 : (options : LiveArgs) → moment options two_kickoffs 4 ≡ session_with options 5 []
 unfolding after_lines digits_after bad_slot_from is_club
-at-4 options = rw (cut, said-1, said-2, said-3, said-4) refl
+at-4 options = rw (cut, said.0, said.1, said.2, said.3) refl
 
 at-5 : (options : LiveArgs) → moment options two_kickoffs 5 ≡ session_with options 6 one
 unfolding after_lines digits_after bad_slot_from is_club
-at-5 options = rw (cut, said-1, said-2, said-3, said-4, said-5, asks-5, enters-5) refl
+at-5 options = rw (cut, said.0, said.1, said.2, said.3, said.4, asks.0, enters.0) refl
 
 at-6 : (options : LiveArgs) → moment options two_kickoffs 6 ≡ session_with options 7 both
 unfolding after_lines digits_after bad_slot_from is_club
-at-6 options = rw (cut, said-1, said-2, said-3, said-4, said-5, asks-5, enters-5, said-6, asks-6, enters-6) refl
+at-6 options = rw (cut, said.0, said.1, said.2, said.3, said.4, asks.0, enters.0, said.5, asks.1, enters.1) refl
 
 -- the board of the mixture
 abbrev mixed : List ℕ
@@ -201,14 +175,6 @@ not-there options place json there = elim (cases_lt place 5) [
     no-later (inl same) = no (inl (sym same))
     no-later (inr behind) = elim behind.less [ inl less ↦ omega (arith, less) | inr less ↦ omega (arith, less.1, same-version) ]
 
--- if board states are those of moments of a record, so is each of them, wherever it stands among them
-one-of : (options : LiveArgs) (rows places : List ℕ) (before after : List BoardState) (m : BoardState)
-    → map Some (before ++ m ∷ after) ≡ map (board_state_of_moment options rows) places → (place : ℕ) × (board_state_of_moment options rows place ≡ Some m)
-one-of options rows [] [] after m same = cc
-one-of options rows (p ∷ places) [] after m same = (p, cc)
-one-of options rows [] (n ∷ before) after m same = cc
-one-of options rows (p ∷ places) (n ∷ before) after m same = one-of options rows places before after m cc
-
 -- a mixture of two moments of the record of two kickoffs is not of this form
 pub no-mixture : MixturesAreRefused
 unfolding MixturesAreRefused
@@ -216,4 +182,4 @@ no-mixture options places before after first second json at-first at-second are 
     let is_first = same_Some first (board_state_of options (board_in [])) (sym at-first ∙ ap board_state_now (at-4 options)) in
     let is_second = same_Some second (board_state_of options (board_in both)) (sym at-second ∙ ap board_state_now (at-6 options)) in
     let place = one-of options two_kickoffs places before after (mixture first second) are.same in
-    not-there options place.0 json (place.1 ∙ ap Some (ap₂ mixture is_first is_second))
+    not-there options place.0 json (place.2 ∙ ap Some (ap₂ mixture is_first is_second))

@@ -1,17 +1,18 @@
 -- The tables that a session itself shows with `--screens`: those of the moments of its record.
-use Rattle.ucl_live_runs.proofs.Common.{Accepted, AreWords, AwaitingClubs, AwaitingHeader, Bad, BoardHeader, BoardState, Err, Event, Format, IsAttempt, IsLegal, List}
-use Rattle.ucl_live_runs.proofs.Common.{LiveArgs, Matches, Mend, MendRefusal, Mends, NamedClub, NightEvent, None, Nothing, Ok, Open, Option, Reached, Refusal, Request, Result}
-use Rattle.ucl_live_runs.proofs.Common.{Said, Screen, Session, SessionsShowMoments, Some, StandingEvent, Words, [], after_lines, answer, answer_at, answer_of, answer_said}
-use Rattle.ucl_live_runs.proofs.Common.{answers, answers_with_tables, ap, append-nil, append_assoc, ap₂, arith, attempt_of, board_after, board_in, board_state_at, board_state_now}
-use Rattle.ucl_live_runs.proofs.Common.{board_state_with, board_words, clubs_after, edition_reply, entered, event_answer, events_after, game_at, history_in, inl, inr, is_later}
-use Rattle.ucl_live_runs.proofs.Common.{left_out_by, length, length-append, lines_of, mend_answer, mended_answer, mended_stage, moment, next, next_at, refl, refusal_of}
-use Rattle.ucl_live_runs.proofs.Common.{reply_answer, reply_is, request_of, request_stage, row_named, said_on, screen_after, screen_answer, screen_if, sequential_reply, shown_text}
-use Rattle.ucl_live_runs.proofs.Common.{start_of, subst, sym, take, true, false, ℕ, ◌++◌, ◌+◌, ◌∙◌, ◌∷◌, ◌≡◌, ◌≤◌}
+use Rattle.ucl_live_runs.proofs.Common.{Accepted, AwaitingClubs, AwaitingHeader, Bad, BoardHeader, BoardState, Err, Event, Format, IsLegal}
+use Rattle.ucl_live_runs.proofs.Common.{List, LiveArgs, Matches, Mend, MendRefusal, Mends, NamedClub, NightEvent, None, Nothing, Ok, Open}
+use Rattle.ucl_live_runs.proofs.Common.{Option, Reached, Refusal, Request, Result, Said, Screen, Session, SessionsShowMoments, Some}
+use Rattle.ucl_live_runs.proofs.Common.{StandingEvent, Words, [], after_lines, answer, answer_at, answer_of, answer_said, answers}
+use Rattle.ucl_live_runs.proofs.Common.{answers_with_tables, ap, append-nil, append_assoc, ap₂, arith, board_in, board_state_at}
+use Rattle.ucl_live_runs.proofs.Common.{board_state_now, board_state_with, clubs_after, edition_reply, entered, event_answer, events_after}
+use Rattle.ucl_live_runs.proofs.Common.{false, game_at, history_in, inl, inr, is_later, left_out_by, length, length-append, lines_of}
+use Rattle.ucl_live_runs.proofs.Common.{mend_answer, mended_answer, mended_stage, moment, next, next_at, refl, reply_answer, request_of}
+use Rattle.ucl_live_runs.proofs.Common.{request_stage, row_named, said_on, screen_after, screen_answer, screen_if, shown_text, standing_of}
+use Rattle.ucl_live_runs.proofs.Common.{start_of, subst, sym, take, true, ℕ, ◌++◌, ◌+◌, ◌∙◌, ◌∷◌, ◌≡◌, ◌≤◌}
 use Rattle.std.proofs.Math.Seq.{take-append-add, take-append_seam}
 use Rattle.ucl_command.specs.declared.follow.FollowShape.{FollowShape}
 use Rattle.ucl_command.specs.declared.options.Format.TheVariants as format
-use Rattle.ucl_live_runs.proofs.Boards.{IsPossible, later-edition, legal-at, possible, version-after}
-use Rattle.ucl_live_runs.proofs.Entered.{entered-board}
+use Rattle.ucl_live_runs.proofs.Boards.{IsPossible, by-reply, later-edition, legal-at, possible}
 use Rattle.ucl_live_runs.proofs.FollowShown.{not-itself}
 use Rattle.ucl_live_runs.proofs.Lines.{after-append}
 use Rattle.ucl_live_runs.proofs.RecordEnds.{Lines, older, sound-after}
@@ -55,24 +56,6 @@ module _ (options : LiveArgs) (on : options.screens ≡ true) (header : BoardHea
       let shown : table (Some before) (Some after) ≡ screen_if options new row all board = rw (newer, on) (sym (screen-text options.format new row all board)) in
       ap₂ (λ (a b : List ℕ). a ++ b) (sym (append-nil text)) (sym shown)
 
-  -- an event on such a board
-  module _ (board : List ℕ) (w : AreWords board) (event : NightEvent) (attempted : IsAttempt (attempt_of event)) (before : ℕ) where
-    abbrev now : List ℕ
-    now = board_after board (attempt_of event)
-
-    abbrev answered : LiveArgs → Option Refusal → List ℕ
-    answered args o =
-        let reply = answer (game_at board event.call.game).number o in
-        reply_answer args.format header.edition row event before reply now ++ screen_after args header row clubs reply now
-
-    event-shown : (o : Option Refusal) → refusal_of (game_at board event.call.game) event.call.expected event.call.kind ≡ o
-        → answered options o ≡ answered quiet o ++ table (Some (Here board)) (Some (Here now))
-    event-shown None none =
-        let more = version-after board (attempt_of event) w attempted none in
-        changed (reply_answer options.format header.edition row event before (answer (game_at board event.call.game).number None) now) header clubs now (Here board)
-        (record { same = (refl, refl); less = inr (refl, omega (arith, more)) })
-    event-shown (Some refusal) some = unchanged (answered options (Some refusal)) (Some (Here board)) (Some (Here now)) (rw some refl)
-
   -- the board of the events that stand
   module _ (events : List StandingEvent) (legal : IsLegal (history_in events)) (edition : header.edition ≤ 65535) where
     abbrev stands : Option BoardState
@@ -82,14 +65,16 @@ module _ (options : LiveArgs) (on : options.screens ≡ true) (header : BoardHea
         → event_answer options header row clubs events event
         ≡ event_answer quiet header row clubs events event ++ table stands (Some (Here (board_in (entered row events event))))
     event-on event p =
-        let shown = event-shown (board_in events) (board_words (history_in events) legal) event p.0 (length events)
-        (refusal_of (game_at (board_in events) event.call.game) event.call.expected event.call.kind) refl in
-        let reply = reply_is (history_in events) (board_in events) event.call legal refl p.0.1 in
-        let after = sym (entered-board row events event legal p.0) in
         let text = λ (args : LiveArgs) (reply : Result Accepted Refusal) (board : List ℕ). reply_answer args.format header.edition row event (length events) reply board
         ++ screen_after args header row clubs reply board in
+        let now = board_in (events ++ standing_of row event ∷ []) in
+        let reply = answer (game_at (board_in events) event.call.game).number None in
         let P = λ (reply : Result Accepted Refusal) (board : List ℕ). text options reply board ≡ text quiet reply board ++ table stands (Some (Here board)) in
-        subst (P (sequential_reply (history_in events) event.call)) after (subst (λ (reply : Result Accepted Refusal). P reply (board_after (board_in events) (attempt_of event))) reply shown)
+        by-reply P row events event legal p.0
+        (λ good-now more.
+        changed (reply_answer options.format header.edition row event (length events) reply now) header clubs now (Here (board_in events))
+        (record { same = (refl, refl); less = inr (refl, omega (arith, more)) }))
+        (λ refusal some. unchanged (text options (Err refusal) (board_in events)) stands stands refl)
 
     mend-on : (mend : Mend) (reply : Result ℕ MendRefusal) → IsPossible (Mends mend) → edition_reply header.edition events mend ≡ reply
         → mend_answer options header row clubs events mend reply ≡ mend_answer quiet header row clubs events mend reply

@@ -1,18 +1,16 @@
 -- The board states that the answers to a record carry: each is that of one moment of the record, and the last is its board.
-use Rattle.ucl_live_runs.proofs.Common.{All, All-append, All-contains, All-contains_itself, All-head, All-nil, All-tail}
-use Rattle.ucl_live_runs.proofs.Common.{All-weaker, AnswersFitTheirLines, AnswersNeverFall, BoardState, Contains, Contains-append_cases, Contains-append_left}
-use Rattle.ucl_live_runs.proofs.Common.{Contains-append_right, FollowArgs, FollowersEndWithTheBoard, IsCarriedIn}
-use Rattle.ucl_live_runs.proofs.Common.{IsLatest, IsNoFall, IsNoNewer, IsOlder, IsRecord, Json, List, LiveArgs, NamedClub, NeverFall, None}
-use Rattle.ucl_live_runs.proofs.Common.{Ok, Open, Option, Reached, Session}
-use Rattle.ucl_live_runs.proofs.Common.{Some, StandingEvent, [], after_lines, answer_lines, answer_said, answers}
-use Rattle.ucl_live_runs.proofs.Common.{arith, begun_line, board_in, ended_none, board_state_at, board_state_now}
-use Rattle.ucl_live_runs.proofs.Common.{board_state_with, ended_lines, few_lines}
-use Rattle.ucl_live_runs.proofs.Common.{inl, inr, is_later, last_lines, length, length-append}
-use Rattle.ucl_live_runs.proofs.Common.{length-take, lines_of, map, nat_tests, next, open_at, parse_board_line, refl, said_on, same_Some}
-use Rattle.ucl_live_runs.proofs.Common.{shown_text, start_of, subst, suc, sym, take, true, version_of, ℕ}
-use Rattle.ucl_live_runs.proofs.Common.{◌++◌, ◌+◌, ◌<◌, ◌^◌, ◌∙◌, ◌∷◌, ◌≡◌, ◌≤◌, ◌⊎◌}
+use Rattle.ucl_live_runs.proofs.Common.{All, All-contains, All-contains_itself, All-nil, All-weaker, AnswersFitTheirLines, AnswersNeverFall}
+use Rattle.ucl_live_runs.proofs.Common.{BoardState, Contains, Contains-append_cases, Contains-append_left, Contains-append_right}
+use Rattle.ucl_live_runs.proofs.Common.{FollowArgs, FollowersEndWithTheBoard, IsCarriedIn, IsLatest, IsNoFall, IsNoNewer, IsOlder, IsRecord}
+use Rattle.ucl_live_runs.proofs.Common.{Json, List, LiveArgs, NamedClub, NeverFall, None, Ok, Open, Option, Reached, Session, Some}
+use Rattle.ucl_live_runs.proofs.Common.{StandingEvent, [], after_lines, answer_lines, answer_said, answers, arith, begun_line, board_in}
+use Rattle.ucl_live_runs.proofs.Common.{board_state_at, board_state_now, board_state_with, ended_lines, ended_none, few_lines, inl, inr}
+use Rattle.ucl_live_runs.proofs.Common.{is_later, last_lines, length, length-append, length-take, lines_of, map, nat_tests, next, open_at}
+use Rattle.ucl_live_runs.proofs.Common.{parse_board_line, refl, said_on, same_Some, shown_text, start_of, subst, suc, sym, take, true}
+use Rattle.ucl_live_runs.proofs.Common.{version_of, ℕ, ◌++◌, ◌+◌, ◌<◌, ◌^◌, ◌∙◌, ◌∷◌, ◌≡◌, ◌≤◌, ◌⊎◌}
 use Rattle.std.proofs.Common.{zero}
-use Rattle.ucl_live_runs.proofs.AnswerLines.{CarriesAtMost, IsAtMost, IsShort, carried-none, carried-then, carried_in, short-then, shown-text}
+use Rattle.ucl_live_runs.proofs.AnswerLines.{CarriesAtMost, IsAtMost, IsShort, carried-none, carried-then, carried_in, short-then}
+use Rattle.ucl_live_runs.proofs.AnswerLines.{shown-text}
 use Rattle.ucl_live_runs.proofs.FollowShown.{same-asked}
 use Rattle.ucl_live_runs.proofs.Told.{IsBehind, IsSound, Tells, board-tells, line-tells, sound-next, start-sound}
 
@@ -85,30 +83,16 @@ at-board e (Ok (Open table)) m h k =
     record { clubs = table.roster; events = table.events; phase = h; same = same_Some (board_state_with e.header table.roster (board_in table.events)) m k }
 at-board e s m h k = cc
 
--- if two lists of board states never fall (none is older than one before it), and none of the second is older than one of the first, both
--- together never fall
-fall-append : (a b : Carried) → NeverFall a → NeverFall b → All (λ o. All (IsNoFall o) b) a → NeverFall (a ++ b)
+-- board states that never fall (none is older than one before it) do not with others before them, if none falls from one of the others
+fall-front : (a b : Carried) → ((o p : Option BoardState) → Contains a o → Contains (a ++ b) p → IsNoFall o p) → NeverFall b
+    → NeverFall (a ++ b)
 unfolding NeverFall
-fall-append [] b p q h = q
-fall-append (o ∷ a) b p q h =
-    let Q = λ (o : Option BoardState). All (IsNoFall o) b in
-    (All-append (IsNoFall o) a b p.0 (All-head Q o a h), fall-append a b p.1 q (All-tail Q o a h))
-
--- if each of two answers carries nothing or just `most`, the second is no fall (to an older board state) from the first
-most-falls : (most o p : Option BoardState) → IsAtMost most o → IsAtMost most p → IsNoFall o p
-most-falls most None p h k = tt
-most-falls most (Some x) None h k = tt
-most-falls most (Some x) (Some y) (inr same) (inr other) = inl (same_Some x y (same ∙ sym other))
-most-falls most (Some x) (Some y) (inl none) k = cc
-most-falls most (Some x) (Some y) (inr same) (inl none) = cc
-
--- answers of which each carries nothing or this board state never fall
-same-falls : (most : Option BoardState) (os : Carried) → All (IsAtMost most) os → NeverFall os
-unfolding NeverFall
-same-falls most [] h = tt
-same-falls most (o ∷ os) h =
-    let rest = All-tail (IsAtMost most) o os h in
-    (All-weaker (IsAtMost most) (IsNoFall o) (λ p. most-falls most o p (All-head (IsAtMost most) o os h)) os rest, same-falls most os rest)
+fall-front [] b h q = q
+fall-front (o ∷ a) b h q = (
+  All-weaker (Contains (a ++ b)) (IsNoFall o) (λ p t. h o p (0, omega arith, refl) (Contains-append_right (o ∷ []) (a ++ b) p t)) (a ++ b)
+      (All-contains_itself (a ++ b)),
+  fall-front a b (λ x p t k. h x p (Contains-append_right (o ∷ []) a x t) (Contains-append_right (o ∷ []) (a ++ b) p k)) q,
+)
 
 -- what a session answers to a line
 abbrev answer_to : Session → List ℕ → List ℕ
@@ -233,22 +217,29 @@ falls : (e : Session) (lines : Lines) → IsReady e lines → NeverFall (carried
 unfolding NeverFall answers after_lines
 falls e [] is = subst NeverFall (sym carried-none) tt
 falls e (line ∷ lines) is =
-    let now = here e line lines is in
-    let more = later e line lines is in
-    subst NeverFall (sym (parts e line lines is)) (fall-append now more (same-falls (board_state_now (after e line)) now (tells e line lines is).each)
-    (falls (after e line) lines (ready-next e line lines is))
-    (All-weaker (Contains now) (λ o. All (IsNoFall o) more) (λ o t. All-weaker (Contains more) (IsNoFall o) (λ p. no-fall o p t) more (All-contains_itself more)) now (All-contains_itself now)))
+    subst NeverFall (sym (parts e line lines is)) (fall-front now more no-fall (falls (after e line) lines ready_next))
   where
-    no-fall : (o p : Option BoardState) → Contains (here e line lines is) o → Contains (later e line lines is) p → IsNoFall o p
+    now : Carried
+    now = here e line lines is
+
+    more : Carried
+    more = later e line lines is
+
+    ready_next : IsReady (after e line) lines
+    ready_next = ready-next e line lines is
+
+    no-fall : (o p : Option BoardState) → Contains now o → Contains (now ++ more) p → IsNoFall o p
     no-fall None p t k = tt
     no-fall (Some x) None t k = tt
-    no-fall (Some x) (Some y) t k =
-        let ready = ready-next e line lines is in
-        let at = was-told (after e line) lines y ready k in
-        elim (climbs (after e line) lines zero at.place x y ready (omega arith) (stands-now e line lines is x t) at.stands) [
-          | inl same ↦ inl same
-          | inr behind ↦ inr (older y x behind)
-        ]
+    no-fall (Some x) (Some y) t k = let stands = stands-now e line lines is x t in elim (Contains-append_cases now more (Some y) k) [
+      | inl here ↦ inl (same_Some x y (sym stands ∙ stands-now e line lines is y here))
+      | inr there ↦
+          let at = was-told (after e line) lines y ready_next there in
+          elim (climbs (after e line) lines zero at.place x y ready_next (omega arith) stands at.stands) [
+            | inl same ↦ inl same
+            | inr behind ↦ inr (older y x behind)
+          ]
+    ]
 
 -- the last line of an input is at most one line
 last-few : (line : List ℕ) → length (last_lines line) ≤ 1

@@ -1,37 +1,32 @@
 -- What the answers of a session to one line tell.
-use Rattle.ucl_live_runs.proofs.Common.{Accepted, All, All-append, All-cons, All-get_or, All-head, All-nil, All-tail, AreWords, Bool}
-use Rattle.ucl_live_runs.proofs.Common.{AwaitingClubs, AwaitingHeader, Bad, BoardHeader, BoardState, Contains}
-use Rattle.ucl_live_runs.proofs.Common.{Contains-append_right, Err, Event, Fate, FourFields, IfSome, IsAttempt}
-use Rattle.ucl_live_runs.proofs.Common.{IsBoardState, IsGroup, IsLegal, IsRoster, IsWord, Json, Kept, LeftOut, List, LiveArgs}
-use Rattle.ucl_live_runs.proofs.Common.{MatchRecord, Matches, Mend, MendRefusal, Mends, NamedClub, NightEvent, None, Nothing, Ok, Open}
-use Rattle.ucl_live_runs.proofs.Common.{Option, Profile, Reached, Refusal, Refused, Request, Result, Row, Said, Screen, Session}
-use Rattle.ucl_live_runs.proofs.Common.{Some, StandingEvent, Without, Words, [], after}
-use Rattle.ucl_live_runs.proofs.Common.{and_parts, answer, answer_at, answer_of, answer_said, ap, arith, asked_header}
-use Rattle.ucl_live_runs.proofs.Common.{attempt_of, bad_answer, board_after, board_in, board_state_at, board_state_now}
-use Rattle.ucl_live_runs.proofs.Common.{board_state_with, board_words, cases_Bool, club_said, clubs_after, cond_both, edition_by}
-use Rattle.ucl_live_runs.proofs.Common.{edition_reply, entered, event_answer, events_after, fate_of, fits}
-use Rattle.ucl_live_runs.proofs.Common.{flat_map-append, fold, game_at, header_by, header_said, history_in, inl, inr}
+use Rattle.ucl_live_runs.proofs.Common.{Accepted, All, All-get_or, All-head, All-nil, All-push, All-tail, AreWords, AwaitingClubs}
+use Rattle.ucl_live_runs.proofs.Common.{AwaitingHeader, Bad, BoardHeader, BoardState, Bool, Contains, Contains-append_right, Err, Event}
+use Rattle.ucl_live_runs.proofs.Common.{Fate, IfSome, IsBoardState, IsGroup, IsLegal, IsRoster, IsWord, Json, Kept, LeftOut, List, LiveArgs}
+use Rattle.ucl_live_runs.proofs.Common.{Matches, Mend, MendRefusal, Mends, NamedClub, NightEvent, None, Nothing, Ok, Open, Option, Profile}
+use Rattle.ucl_live_runs.proofs.Common.{Reached, Refusal, Refused, Request, Result, Row, Said, Screen, Session, Some, StandingEvent}
+use Rattle.ucl_live_runs.proofs.Common.{Without, Words, [], after, and_parts, answer, answer_at, answer_of, answer_said, ap, arith}
+use Rattle.ucl_live_runs.proofs.Common.{asked_header, bad_answer, board_in, board_state_at, board_state_now, board_state_with, board_words}
+use Rattle.ucl_live_runs.proofs.Common.{club_said, clubs_after, cond_both, edition_by, edition_reply, entered, event_answer, events_after}
+use Rattle.ucl_live_runs.proofs.Common.{fate_of, fits, flat_map-append, fold, game_at, header_by, header_said, history_in, inl, inr}
 use Rattle.ucl_live_runs.proofs.Common.{is_group_row, is_ok, json_line, kept_after, kept_by, leb-true, left_by, left_out_by, left_out_lines}
 use Rattle.ucl_live_runs.proofs.Common.{left_out_value, length, letter_in, matches_answer, mend_answer, mend_refused_answer, mended_answer}
-use Rattle.ucl_live_runs.proofs.Common.{mended_stage, moved, named, nat_le, nat_tests, next, next_at}
-use Rattle.ucl_live_runs.proofs.Common.{number_valid, open_at, profile_named, refl, refusal_of, refused_value, reply_answer, reply_is}
-use Rattle.ucl_live_runs.proofs.Common.{request_of, request_stage, row_named, row_number, screen_after, screen_answer}
-use Rattle.ucl_live_runs.proofs.Common.{screen_if, sequential_reply, standing_of, start_of, subst, sym, true, unwrap_or, version_of}
-use Rattle.ucl_live_runs.proofs.Common.{word_at, word_valid, words_answer, ℕ, ◌&&◌, ◌++◌, ◌+◌, ◌-◌, ◌<◌, ◌>>=◌, ◌^◌}
-use Rattle.ucl_live_runs.proofs.Common.{◌∷◌, ◌≡◌, ◌≤◌, ◌⊎◌}
+use Rattle.ucl_live_runs.proofs.Common.{mended_stage, moved, named, nat_le, nat_tests, next, next_at, number_valid, open_at, profile_named}
+use Rattle.ucl_live_runs.proofs.Common.{refl, refused_value, reply_answer, request_of, request_stage, row_named, row_number, screen_after}
+use Rattle.ucl_live_runs.proofs.Common.{screen_answer, screen_if, sequential_reply, standing_of, start_of, subst, sym, true, unwrap_or}
+use Rattle.ucl_live_runs.proofs.Common.{version_of, word_at, word_valid, words_answer, ℕ, ◌&&◌, ◌++◌, ◌+◌, ◌-◌, ◌<◌, ◌>>=◌, ◌^◌, ◌∷◌, ◌≡◌}
+use Rattle.ucl_live_runs.proofs.Common.{◌≤◌, ◌⊎◌}
 use Rattle.ucl_command.proofs.Letters.{asked_letter}
 use Rattle.ucl_command.specs.Groups.{may_be_asked}
 use Rattle.ucl_screen.specs.Numbers.{number}
 unfoldable use Rattle.ucl_mends.specs.Mended.{left_out_after}
-use Rattle.ucl_live_runs.proofs.AnswerLines.{CarriesAtMost, HasNumbers, IsShown, accepted-line, bad-line, board-fits, carried-line, carried-then, carried_in}
-use Rattle.ucl_live_runs.proofs.AnswerLines.{found-fits, matches-line, most-none, most-then, refused-line, value-line, words-line}
+use Rattle.ucl_live_runs.proofs.AnswerLines.{CarriesAtMost, HasNumbers, IsShown, accepted-line, bad-line, board-fits, carried-line}
+use Rattle.ucl_live_runs.proofs.AnswerLines.{carried-then, carried_in, found-fits, left-out-line, matches-line, mend-refused-line}
+use Rattle.ucl_live_runs.proofs.AnswerLines.{mended-line, most-none, most-then, refused-line, value-line, words-line}
 use Rattle.ucl_live_runs.proofs.AnswerValues.{screen-back, screen-plain}
-use Rattle.ucl_live_runs.proofs.Boards.{IsGood, IsPossible, IsSmall, good-after, good-club, good-clubs, good-first, good-mend, later-edition}
-use Rattle.ucl_live_runs.proofs.Boards.{possible, ranged, version-after}
-use Rattle.ucl_live_runs.proofs.Entered.{entered-board, entered-legal}
+use Rattle.ucl_live_runs.proofs.Boards.{IsGood, IsPossible, IsSmall, by-reply, entered-legal, good-club, good-clubs, good-first, good-mend}
+use Rattle.ucl_live_runs.proofs.Boards.{in-limits, later-edition, possible}
 use Rattle.ucl_live_runs.proofs.FollowShown.{IsOfSame}
 use Rattle.ucl_live_runs.proofs.Lines.{by-line}
-use Rattle.ucl_live_runs.proofs.MendLines.{left-out-line, mend-refused-line, mended-line}
 use Rattle.ucl_live_runs.specs.Follow.{screen_of}
 use Rattle.ucl_json.proofs.AnswerSizes.{version-fits}
 use Rattle.ucl_json.proofs.PlainValues.{IsShortPlain}
@@ -59,15 +54,11 @@ pub record IsHeader (header : BoardHeader) : Type 0 where
   pub letter : IsGroup header.group
   pub edition : header.edition ≤ 65535
 
--- a text that is read as the letter of a group names a group that there is
-within : (text : List ℕ) (group : ℕ) → letter_in text ≡ Some group → IsGroup group
-within (b ∷ []) group e = elim (cases_Bool (nat_le 65 b && nat_le b 72)) [
-  | inl y ↦
-      let same : b ≡ group = cc (rw y at e) in
-      let p = and_parts (nat_le 65 b) (nat_le b 72) y in subst IsGroup same (leb-true 65 b p.0, leb-true b 72 p.1)
-  | inr n ↦ cc (rw n at e)
-]
-within text group e = cc
+-- a text that is read as the letter of a group, if it is, names a group that there is
+within : (text : List ℕ) → IfSome (letter_in text) IsGroup
+within (b ∷ []) = cond_both (nat_le 65 b && nat_le b 72) (Some b) None (λ (o : Option ℕ). IfSome o IsGroup)
+    (λ y. let p = and_parts (nat_le 65 b) (nat_le b 72) y in (leb-true 65 b p.0, leb-true b 72 p.1)) (λ _. tt)
+within _ = tt
 
 -- the header that these fields make, if each was read
 abbrev has_header : Option ℕ → Option Profile → Option ℕ → Option BoardHeader
@@ -77,18 +68,11 @@ has_header a b c = do
   edition ← c
   Some (record { group = group; profile = profile; edition = edition })
 
--- a header that was made of fields has the group and the edition that were read of them
-by-parts : (a : Option ℕ) (b : Option Profile) (c : Option ℕ) (header : BoardHeader) → has_header a b c ≡ Some header → (a ≡ Some header.group) × (c ≡ Some header.edition)
-by-parts (Some a) (Some b) (Some c) header h =
-    let same : ◌≡◌ {A = BoardHeader} (record { group = a; profile = b; edition = c }) header = cc in
-    (ap (λ (t : BoardHeader). Some t.group) same, ap (λ (t : BoardHeader). Some t.edition) same)
-by-parts a b c header h = cc
-
--- a header that a row names has a group that there is and an edition of 16 bits
-said-header : (f : FourFields) (header : BoardHeader) → header_by f ≡ Some header → IsHeader header
-said-header f header h =
-    let p = by-parts (letter_in f.second) (profile_named f.third) (edition_by f.fourth) header h in
-    record { letter = within f.second header.group p.0; edition = (ranged 0 65535 (number 5 f.fourth) header.edition p.1).1 }
+-- the header that these fields make, if each was read, is in range, if each was read in range
+header-of : (a : Option ℕ) (b : Option Profile) (c : Option ℕ) → IfSome a IsGroup → IfSome c (λ n. (0 ≤ n) × (n ≤ 65535))
+    → IfSome (has_header a b c) IsHeader
+header-of (Some a) (Some b) (Some c) letter edition = record { letter = letter; edition = edition.1 }
+header-of _ _ _ letter edition = tt
 
 -- the group that is asked for, if it may be asked for, or else A, is a group that there is
 letter-of : (asked : Option ℕ) → may_be_asked asked ≡ true → IsGroup (unwrap_or asked 65)
@@ -100,13 +84,14 @@ pub first-header : (options : LiveArgs) → IsHeader (asked_header options)
 first-header options = record { letter = letter-of options.group options.letter; edition = omega arith }
 
 -- the header of a row, or else the one before it, has a group that there is and an edition of 16 bits, if both have
-or-header : (header : BoardHeader) (o : Option BoardHeader) → IsHeader header → ((other : BoardHeader) → o ≡ Some other → IsHeader other) → IsHeader (unwrap_or o header)
+or-header : (header : BoardHeader) (o : Option BoardHeader) → IsHeader header → IfSome o IsHeader → IsHeader (unwrap_or o header)
 or-header header None is more = is
-or-header header (Some other) is more = more other refl
+or-header header (Some other) is more = more
 
 -- the header after a row has a group that there is and an edition of 16 bits, if the one before it has
 row-header : (header : BoardHeader) (r : Said) → IsHeader header → IsHeader (unwrap_or (header_said r) header)
-row-header header (Row f) is = or-header header (header_by f) is (said-header f)
+row-header header (Row f) is = or-header header (header_by f) is
+    (header-of (letter_in f.second) (profile_named f.third) (edition_by f.fourth) (within f.second) (in-limits 0 65535 (number 5 f.fourth)))
 row-header _ _ is = is
 
 -- the row number that an event keeps, which is 0 above 32 bits, has 32 bits
@@ -117,11 +102,11 @@ small-row row = cond_both (nat_le row 4294967295) row 0 (λ n. n ≤ 4294967295)
 small-entered : (row : ℕ) (events : List StandingEvent) (event : NightEvent) → All IsSmall events → All IsSmall (entered row events event)
 small-entered row events event all =
     cond_both (is_ok (sequential_reply (history_in events) event.call)) (events ++ standing_of row event ∷ []) events (All IsSmall)
-    (λ _. All-append IsSmall events (standing_of row event ∷ []) all (All-cons IsSmall (standing_of row event) [] (small-row row) (All-nil IsSmall))) (λ _. all)
+    (λ _. All-push IsSmall events (standing_of row event) all (small-row row)) (λ _. all)
 
 -- if the rows of the events kept so far and of one more have 32 bits, so have those of the events kept after it
 small-kept : (kept : List StandingEvent) (event : StandingEvent) (fate : Fate) → All IsSmall kept → IsSmall event → All IsSmall (kept_by kept event fate)
-small-kept kept event Kept all one = All-append IsSmall kept (event ∷ []) all (All-cons IsSmall event [] one (All-nil IsSmall))
+small-kept kept event Kept all one = All-push IsSmall kept event all one
 small-kept kept event _ all one = all
 
 -- if the rows of the events kept so far and of more events have 32 bits, so have those of all events kept after them
@@ -271,44 +256,6 @@ module _ (options : LiveArgs) (header : BoardHeader) (row : ℕ) (clubs : List N
   abbrev At : List ℕ → BoardState
   At board = board_state_with header clubs board
 
-  -- an event on such a board
-  module _ (board : List ℕ) (w : AreWords board) (event : NightEvent) (attempted : IsAttempt (attempt_of event)) (small : HasNumbers event) (before : ℕ) where
-    abbrev game_of : List ℕ → MatchRecord
-    game_of words = game_at words event.call.game
-
-    abbrev now : List ℕ
-    now = board_after board (attempt_of event)
-
-    good-now : AreWords now
-    good-now = good-after board (attempt_of event) w attempted
-
-    is-word : (words : List ℕ) → AreWords words → IsWord (word_at words event.call.game)
-    is-word words good = All-get_or IsWord words (event.call.game - 1) 0 (let t = good.twelve in let r = attempted.1 in omega (arith, t, r)) good.each
-
-    number-fits : (game_of board).number + 1 < 2 ^ 64
-    number-fits = let n = number_valid (game_of board) (word_valid (word_at board event.call.game) (is-word board w)) in omega arith
-
-    abbrev answered : Option Refusal → List ℕ
-    answered o =
-        let reply = answer (game_of board).number o in
-        reply_answer options.format header.edition row event before reply now ++ screen_after options header row clubs reply now
-
-    -- the answer to an event tells the board state after it
-    event-told : (o : Option Refusal) → refusal_of (game_of board) event.call.expected event.call.kind ≡ o → Tells options.screens (At board) (Some (At now)) (answered o)
-    event-told None none =
-        let more = version-after board (attempt_of event) w attempted none in
-        let edition : header.edition < 2 ^ 64 = let few = good.edition in omega arith in
-        let version : version_of now < 2 ^ 64 = let few = version-fits now good-now in omega arith in
-        newer-told options header row clubs json fits good is now good-now (At board) (reply_answer options.format header.edition row event before (answer (game_of board).number None) now)
-        (rw json (accepted-line (Some (At now)) row event ((game_of board).number + 1) header.edition (version_of now) fits small number-fits edition version))
-        (record { same = (refl, refl); less = inr (refl, omega (arith, more)) })
-    event-told (Some refusal) some =
-        let line = json_line (refused_value row event refusal (game_of now)) in
-        let silent = refused-line (Some (At now)) row event refusal (game_of now) fits small
-        (found-fits (word_at board event.call.game) event.call.expected event.call.kind refusal (is-word board w) some)
-        (word_valid (word_at now event.call.game) (is-word now good-now)) in
-        stays-told options.screens (At board) (Some (At now)) (answered (Some refusal)) (rw json (most-then (Some (At now)) line [] silent (most-none (Some (At now))))) (rw some refl)
-
   -- the board of the events that stand
   module _ (events : List StandingEvent) (legal : IsLegal (history_in events)) (small : All IsSmall events) where
     abbrev At_now : BoardState
@@ -317,16 +264,31 @@ module _ (options : LiveArgs) (header : BoardHeader) (row : ℕ) (clubs : List N
     words : AreWords (board_in events)
     words = board_words (history_in events) legal
 
+    -- the answer to an event tells the board state after it
     event-tells : (event : NightEvent) → IsPossible (Event event)
         → Tells options.screens At_now (Some (At (board_in (entered row events event)))) (event_answer options header row clubs events event)
     event-tells event p =
-        let told = event-told (board_in events) words event p.0 (numbers event p) (length events)
-        (refusal_of (game_at (board_in events) event.call.game) event.call.expected event.call.kind) refl in
-        let reply = reply_is (history_in events) (board_in events) event.call legal refl p.0.1 in
-        let after = sym (entered-board row events event legal p.0) in
-        let P = λ (reply : Result Accepted Refusal) (board : List ℕ). Tells options.screens At_now (Some (At board))
-        (reply_answer options.format header.edition row event (length events) reply board ++ screen_after options header row clubs reply board) in
-        subst (P (sequential_reply (history_in events) event.call)) after (subst (λ (reply : Result Accepted Refusal). P reply (board_after (board_in events) (attempt_of event))) reply told)
+        let board = board_in events in
+        let word = word_at board event.call.game in
+        let game = game_at board event.call.game in
+        let now = board_in (events ++ standing_of row event ∷ []) in
+        let one : IsWord word =
+        All-get_or IsWord board (event.call.game - 1) 0 (let t = words.twelve in let r = p.0.1 in omega (arith, t, r)) words.each in
+        let line = reply_answer options.format header.edition row event (length events) in
+        by-reply (λ (reply : Result Accepted Refusal) (board : List ℕ). Tells options.screens At_now (Some (At board))
+        (line reply board ++ screen_after options header row clubs reply board)) row events event legal p.0
+        (λ good-now more.
+        let number : game.number + 1 < 2 ^ 64 = let n = number_valid game (word_valid word one) in omega arith in
+        let edition : header.edition < 2 ^ 64 = let few = good.edition in omega arith in
+        let version : version_of now < 2 ^ 64 = let few = version-fits now good-now in omega arith in
+        newer-told options header row clubs json fits good is now good-now At_now (line (answer game.number None) now) (rw json
+        (accepted-line (Some (At now)) row event (game.number + 1) header.edition (version_of now) fits (numbers event p) number edition version))
+        (record { same = (refl, refl); less = inr (refl, omega (arith, more)) }))
+        (λ refusal some.
+        let silent = refused-line (Some At_now) row event refusal game fits (numbers event p)
+        (found-fits word event.call.expected event.call.kind refusal one some) (word_valid word one) in
+        stays-told options.screens At_now (Some At_now) (line (Err refusal) board ++ [])
+        (rw json (most-then (Some At_now) (json_line (refused_value row event refusal game)) [] silent (most-none (Some At_now)))) refl)
 
     left-few : (mend : Mend) → length (left_out_by events mend) < 2 ^ 64
     left-few (Without named) = let a = few-left named events in let b = few events legal in omega (arith, a, b.1)

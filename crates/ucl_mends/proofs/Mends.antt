@@ -1,35 +1,27 @@
 -- What a mend keeps of the events that stand, and what it leaves out.
-use Rattle.ucl_mends.proofs.Common.{Accepted, All, All-cons, All-head, All-nil, All-tail, Bool, Entry, EventCall, Fate, IsAttempt}
-use Rattle.ucl_mends.proofs.Common.{IsLegal, IsMatch, IsMendedSoFar, IsReporter, Kept, LeftOut, List, MatchRecord, MayFollow}
-use Rattle.ucl_mends.proofs.Common.{MendsOneMore, Named, Option, Refusal, Refused, Result, StandingEvent, [], answer, ap, append-nil}
-use Rattle.ucl_mends.proofs.Common.{append_assoc, append_cancel_left, arith, attempts_from, board_of, call_again, cases_Bool, cases_eq}
-use Rattle.ucl_mends.proofs.Common.{drop-drop, drop-set-lt, false, fate_by, fate_of, filter-append, fold}
-use Rattle.ucl_mends.proofs.Common.{fold-append, game_after, game_at, get_or, get_or-drop, history_in, if◌then◌else◌, inl, inr, is_ok}
-use Rattle.ucl_mends.proofs.Common.{kept_after, kept_by, left_by, left_out, length, length-append, length-map, length-set, map-append}
-use Rattle.ucl_mends.proofs.Common.{may_begin, may_last, may_none, mended, ne_eqb, refl, sequential_reply, set, subst, sym, take}
-use Rattle.ucl_mends.proofs.Common.{take_more, take_more_set, true, version_of, ℕ, ◌++◌, ◌+◌, ◌<◌, ◌==◌, ◌∙◌, ◌∷◌, ◌≡◌, ◌≤◌}
-use Rattle.std.proofs.Common.{◌≢◌, map, Ok, Err}
-use Rattle.std.proofs.Common.{drop}
+use Rattle.ucl_mends.proofs.Common.{Accepted, All, All-cons, All-head, All-nil, All-tail, AreOnBoard, Bool, Entry, EventCall, Fate}
+use Rattle.ucl_mends.proofs.Common.{IsAttempt, IsLegal, IsMatch, IsReporter, Kept, LeftOut, List, MatchRecord, MayFollow, MendsOneMore}
+use Rattle.ucl_mends.proofs.Common.{Named, Option, Refusal, Refused, Result, StandingEvent, [], answer, ap, append-nil, append_assoc}
+use Rattle.ucl_mends.proofs.Common.{append_cancel_left, arith, attempts_from, board_of, call_again, cases_Bool, cases_eq, drop_all}
+use Rattle.ucl_mends.proofs.Common.{drop_more, false, fate_by, fate_of, filter-append, fold, fold-append, game_after, game_at, get_or}
+use Rattle.ucl_mends.proofs.Common.{history_in, if◌then◌else◌, inl, inr, is_ok, kept_after, kept_by, left_by, left_out, length}
+use Rattle.ucl_mends.proofs.Common.{length-append, length-map, map-append, may_begin, may_last, may_none, mended, ne_eqb, refl}
+use Rattle.ucl_mends.proofs.Common.{sequential_reply, subst, sym, take, true, version_of, ℕ, ◌++◌, ◌+◌, ◌<◌, ◌==◌, ◌∙◌, ◌∷◌, ◌≡◌, ◌≤◌}
+use Rattle.std.proofs.Common.{Err, Ok, ap₂, drop, map, ◌≢◌}
 use mathlib.Core.List.{IsPrefix}
 use Rattle.ucl_word.specs.Counts.{GainsOne, MatchEntry, counted_match}
 use Rattle.ucl_word.specs.Rules.{refusal_of}
 use Rattle.ucl_word.proofs.EntryCounts.{number_of_count}
-use Rattle.ucl_board.specs.History.{attempted, entries_of, followed_by, match_after}
-use Rattle.ucl_board.specs.History.{of_match}
+use Rattle.ucl_board.specs.History.{attempted, entries_of, followed_by, match_after, of_match}
 use Rattle.ucl_board.proofs.HistoryTheorems.{versions}
 unfoldable pub use Rattle.ucl_mends.specs.Mended.{left_out_after}
 use Rattle.ucl_mends.specs.Mended.{left_if}
 use Rattle.ucl_mends.specs.MendTheorems.{events_of}
-use Rattle.ucl_mends.proofs.LeftOuts.{few-left}
 unfoldable pub use Rattle.ucl_mends.specs.MendTheorems.{LaterEventsGoOn, MendsAreLegal, OtherMatchesStay, WholeHistoriesAreKept}
 
 -- the history of events with more behind them is the history of the first, then that of the others
 pub history-more : (events more : List StandingEvent) → history_in (events ++ more) ≡ history_in events ++ history_in more
 history-more events more = map-append (λ (event : StandingEvent). event.entry) events more
-
--- what a mend keeps of one event more is what it kept, with that event if it is accepted again and not named
-pub mended-more : (row : ℕ) (events : List StandingEvent) (event : StandingEvent) → mended row (events ++ event ∷ []) ≡ kept_after row (mended row events) event
-mended-more row events event = fold-append (kept_after row) [] events (event ∷ [])
 
 -- the reply to an event that is entered again after those that are kept
 abbrev pub reply-again : List StandingEvent → StandingEvent → Result Accepted Refusal
@@ -243,143 +235,121 @@ later_events row events more =
           (append_cancel_left (left_out row events) (left_out_after row (mended row events) more) [] (sym outs ∙ is ∙ sym (append-nil (left_out row events)))) all;
     }
 
--- an event is entered again, on the board so far
-module _ (row : ℕ) (event : StandingEvent) (board board2 : List ℕ) where
-  -- one event more, by what becomes of it
-  one-more : (fate : Fate) (events : List StandingEvent) → fate ≡ fate_of row (mended row events) event
-      → IsLegal (history_in (kept_by (mended row events) event fate)) → board_of (history_in (kept_by (mended row events) event fate)) ≡ board2
-      → (fate ≡ fate_of row (mended row events) event) × IsMendedSoFar row (events ++ event ∷ []) board2
-  one-more fate events is legal board_is =
-      let after = mended-more row events event ∙ ap (kept_by (mended row events) event) (sym is) in (
-        is,
-        record {
-          legal = subst (λ (l : List StandingEvent). IsLegal (history_in l)) (sym after) legal;
-          board_is = ap (λ (l : List StandingEvent). board_of (history_in l)) after ∙ board_is;
-        },
-      )
+-- an event of another row is entered again on a board
+module _ (row : ℕ) (event : StandingEvent) (board board2 : List ℕ) (other : event.row ≢ row) (game : IsMatch event.entry.game)
+    (call : EventCall) (call_is : call ≡ record { game = event.entry.game; expected = (game_at board event.entry.game).number; kind = event.entry.kind }) where
+  -- the reply on the board is that after the history that is kept
+  fate-is : (kept : List StandingEvent) (reply : Result Accepted Refusal) → AreOnBoard kept board
+      → ((history : List Entry) → IsLegal history → board_of history ≡ board → reply ≡ sequential_reply history call)
+      → fate_by reply ≡ fate_of row kept event
+  fate-is kept reply s sequential =
+      let history = history_in kept in
+      let now : game_at board event.entry.game ≡ match_after history event.entry.game =
+      ap (λ (words : List ℕ). game_at words event.entry.game) (sym s.board_is) ∙ game_after history event.entry.game s.legal game in
+      let same_call : call ≡ call_again history event.entry =
+      call_is ∙ ap (λ (m : MatchRecord). record { game = event.entry.game; expected = m.number; kind = event.entry.kind }) now in
+      ap fate_by (sequential history s.legal s.board_is ∙ ap (sequential_reply history) same_call)
+      ∙ sym (fate-other row kept event (ne_eqb event.row row other))
 
-  module _ (other : event.row ≢ row) (game : IsMatch event.entry.game) (call : EventCall)
-      (call_is : call ≡ record { game = event.entry.game; expected = (game_at board event.entry.game).number; kind = event.entry.kind }) where
-    -- the reply on the board is that after the history that is kept
-    fate-is : (events : List StandingEvent) (reply : Result Accepted Refusal) → IsMendedSoFar row events board
-        → ((history : List Entry) → IsLegal history → board_of history ≡ board → reply ≡ sequential_reply history call)
-        → fate_by reply ≡ fate_of row (mended row events) event
-    fate-is events reply s sequential =
-        let history = history_in (mended row events) in
-        let now : game_at board event.entry.game ≡ match_after history event.entry.game =
-        ap (λ (words : List ℕ). game_at words event.entry.game) (sym s.board_is) ∙ game_after history event.entry.game s.legal game in
-        let same_call : call ≡ call_again history event.entry =
-        call_is ∙ ap (λ (m : MatchRecord). record { game = event.entry.game; expected = m.number; kind = event.entry.kind }) now in
-        ap fate_by (sequential history s.legal s.board_is ∙ ap (sequential_reply history) same_call)
-        ∙ sym (fate-other row (mended row events) event (ne_eqb event.row row other))
+  -- an event that is entered again is kept, if the board accepts it
+  pub goes-kept : (accepted : Accepted)
+      → ((history : List Entry) → IsLegal history → board_of history ≡ board → Ok accepted ≡ sequential_reply history call)
+      → GainsOne IsLegal board_of event.entry board board2 → MendsOneMore row event Kept board board2
+  goes-kept accepted sequential gains kept s =
+      let g = gains (history_in kept) s.legal s.board_is in
+      let more = history-more kept (event ∷ []) in
+      (fate-is kept (Ok accepted) s sequential, record { legal = subst IsLegal (sym more) g.1; board_is = ap board_of more ∙ sym g.0 })
 
-    -- an event that is entered again is kept, if the board accepts it
-    pub goes-kept : (accepted : Accepted) → ((history : List Entry) → IsLegal history → board_of history ≡ board → Ok accepted ≡ sequential_reply history call)
-        → GainsOne IsLegal board_of event.entry board board2 → MendsOneMore row event Kept board board2
-    goes-kept accepted sequential gains events s =
-        let kept = mended row events in
-        let g = gains (history_in kept) s.legal s.board_is in
-        let more = history-more kept (event ∷ []) in
-        one-more Kept events (fate-is events (Ok accepted) s sequential) (subst IsLegal (sym more) g.1) (ap board_of more ∙ sym g.0)
+  -- an event that is entered again is left out, if the board refuses it
+  pub goes-refused : (refusal : Refusal)
+      → ((history : List Entry) → IsLegal history → board_of history ≡ board → Err refusal ≡ sequential_reply history call)
+      → board2 ≡ board → MendsOneMore row event (Refused refusal) board board2
+  goes-refused refusal sequential is kept s =
+      (fate-is kept (Err refusal) s sequential, record { legal = s.legal; board_is = s.board_is ∙ sym is })
 
-    -- an event that is entered again is left out, if the board refuses it
-    pub goes-refused : (refusal : Refusal) → ((history : List Entry) → IsLegal history → board_of history ≡ board → Err refusal ≡ sequential_reply history call)
-        → board2 ≡ board → MendsOneMore row event (Refused refusal) board board2
-    goes-refused refusal sequential is events s = one-more (Refused refusal) events (fate-is events (Err refusal) s sequential) s.legal (s.board_is ∙ sym is)
+-- the events that a mend still leaves out after those that it has kept, if they are to be listed; else none
+abbrev pub left_to_come : Bool → ℕ → List StandingEvent → List StandingEvent → List LeftOut
+left_to_come listed row kept events = if listed then left_out_after row kept events else []
 
--- the event at place i of a list, from the front of which a mend has made what it keeps
-module _ (row : ℕ) (events : List StandingEvent) (i : ℕ) (event : StandingEvent) (below : i < length events) (is : event ≡ get_or events i event) where
-  pub front-more : take (i + 1) events ≡ take i events ++ event ∷ []
-  front-more = take_more events i event below ∙ ap (λ (e : StandingEvent). take i events ++ e ∷ []) (sym is)
+-- a mend in place: the first events of `now`, as many as `kept` says, are kept and make the board; with those from place `at` on they come
+-- to the mend of `before`, and `left` are the events that were left out
+pub record IsInPlace (row : ℕ) (listed : Bool) (before now : List StandingEvent) (kept at : ℕ) (board : List ℕ)
+    (left : List LeftOut) : Type 0 where
+  pub front : AreOnBoard (take kept now) board
+  pub whole : fold (kept_after row) (take kept now) (drop at now) ≡ mended row before
+  pub behind : kept ≤ at
+  pub long : length now ≡ length before
+  pub out : left ++ left_to_come listed row (take kept now) (drop at now) ≡ left_if listed row before
+  pub few : length left ≤ at
 
-  pub mended-front : mended row (take (i + 1) events) ≡ kept_after row (mended row (take i events)) event
-  mended-front = ap (mended row) front-more ∙ mended-more row (take i events) event
+-- a mend in place is at its beginning
+pub in-place-begins : (row : ℕ) (listed : Bool) (events : List StandingEvent) (board : List ℕ) (left : List LeftOut)
+    → board_of [] ≡ board → left ≡ [] → IsInPlace row listed events events 0 0 board left
+in-place-begins row listed events board left fresh none = rw none (record {
+  front = record { legal = may_none MayFollow; board_is = fresh };
+  whole = refl;
+  behind = omega arith;
+  long = refl;
+  out = refl;
+  few = omega arith;
+})
 
-  -- the events left out of one event more are those of before, and this event, if it is refused
-  pub out-more : (fate : Fate) → fate ≡ fate_of row (mended row (take i events)) event → left_out row (take (i + 1) events) ≡ left_out row (take i events) ++ left_by event fate
-  unfolding left_out_after
-  out-more fate by =
-      ap (left_out row) front-more ∙ left-more row [] (take i events) (event ∷ [])
-      ∙ ap (λ (l : List LeftOut). left_out row (take i events) ++ l) (append-nil (left_by event (fate_of row (mended row (take i events)) event)))
-      ∙ ap (λ (f : Fate). left_out row (take i events) ++ left_by event f) (sym by)
+-- of one event, whatever its fate, at most one is left out
+at-most-one : (listed : Bool) (event : StandingEvent) (fate : Fate) → length (if listed then left_by event fate else []) ≤ 1
+at-most-one true event (Refused refusal) = omega arith
+at-most-one _ event _ = omega arith
 
-  -- so it is for the list of those that are left out, if they are listed
-  pub listed-more : (listed : Bool) (fate : Fate) → fate ≡ fate_of row (mended row (take i events)) event
-      → left_if listed row (take (i + 1) events) ≡ left_if listed row (take i events) ++ (if listed then left_by event fate else [])
-  listed-more true fate by = out-more fate by
-  listed-more false fate by = refl
+-- behind the events that were left out come those left out from an event on: this one, if it is refused, and those left out after it
+out-next : (row : ℕ) (listed : Bool) (kept : List StandingEvent) (event : StandingEvent) (events : List StandingEvent) (left : List LeftOut)
+    → (left ++ (if listed then left_by event (fate_of row kept event) else []))
+    ++ left_to_come listed row (kept_after row kept event) events
+    ≡ left ++ left_to_come listed row kept (event ∷ events)
+unfolding left_out_after
+out-next row true kept event events left =
+    append_assoc left (left_by event (fate_of row kept event)) (left_out_after row (kept_after row kept event) events)
+out-next row false kept event events left = append_assoc left [] []
 
-  -- the mend so far, with this event, is the mend of one event more
-  pub so-far-more : (fate : Fate) (board board2 : List ℕ) → IsMendedSoFar row (take i events) board → MendsOneMore row event fate board board2
-      → IsMendedSoFar row (take (i + 1) events) board2
-  so-far-more fate board board2 s goes = subst (λ (l : List StandingEvent). IsMendedSoFar row l board2) (sym front-more) (goes (take i events) s).1
+-- a mend in place goes on by the event at place `at`: by its fate it is put behind those that are kept, or not, and listed, or not
+pub in-place-next : (row : ℕ) (listed : Bool) (before now : List StandingEvent) (kept at : ℕ) (board : List ℕ) (left : List LeftOut)
+    → IsInPlace row listed before now kept at board left → (event : StandingEvent) (fate : Fate) (board2 : List ℕ) → at < length now
+    → event ≡ get_or now at event → MendsOneMore row event fate board board2 → (new : List StandingEvent) (many : ℕ) (more : List LeftOut)
+    → take many new ≡ kept_by (take kept now) event fate → drop (at + 1) new ≡ drop (at + 1) now → length new ≡ length now → many ≤ at + 1
+    → more ≡ left ++ (if listed then left_by event fate else []) → IsInPlace row listed before new many (at + 1) board2 more
+in-place-next row listed before now kept at board left s event fate board2 below is goes new many more front rest long behind list =
+    let fated = goes (take kept now) s.front in
+    let here : drop at now ≡ event ∷ drop (at + 1) now =
+    drop_more now at event below ∙ ap (λ (e : StandingEvent). e ∷ drop (at + 1) now) (sym is) in
+    let after : take many new ≡ kept_after row (take kept now) event = front ∙ ap (kept_by (take kept now) event) fated.0 in
+    let out = λ (f : Fate). if listed then left_by event f else [] in record {
+      front = subst (λ (l : List StandingEvent). AreOnBoard l board2) (sym front) fated.1;
+      whole = ap₂ (fold (kept_after row)) after rest ∙ ap (fold (kept_after row) (take kept now)) (sym here) ∙ s.whole;
+      behind = behind;
+      long = long ∙ s.long;
+      out = ap₂ (λ (a b : List LeftOut). a ++ b) (list ∙ ap (λ (f : Fate). left ++ out f) fated.0) (ap₂ (left_to_come listed row) after rest)
+          ∙ out-next row listed (take kept now) event (drop (at + 1) now) left
+          ∙ ap (λ (l : List StandingEvent). left ++ left_to_come listed row (take kept now) l) (sym here) ∙ s.out;
+      few = let one = at-most-one listed event fate in let both = length-append left (out fate) in let few = s.few in
+          rw list (omega (arith, one, both, few));
+    }
 
 -- where an event is not left out, no list gets it
-pub none-listed : (listed : Bool) (list : List LeftOut) (event : StandingEvent) (fate : Fate) → left_by event fate ≡ [] → list ++ (if listed then left_by event fate else []) ≡ list
-none-listed true list event fate none = ap (λ (l : List LeftOut). list ++ l) none ∙ append-nil list
-none-listed false list event fate none = append-nil list
+pub none-listed : (listed : Bool) (list : List LeftOut) (event : StandingEvent) (fate : Fate) → left_by event fate ≡ []
+    → list ≡ list ++ (if listed then left_by event fate else [])
+none-listed true list event fate none = sym (ap (λ (l : List LeftOut). list ++ l) none ∙ append-nil list)
+none-listed false list event fate none = sym (append-nil list)
 
 -- of no events none is left out
-pub listed-none : (listed : Bool) (row : ℕ) (events : List StandingEvent) → [] ≡ left_if listed row (take 0 events)
+none-to-come : (listed : Bool) (row : ℕ) (kept : List StandingEvent) → left_to_come listed row kept [] ≡ []
 unfolding left_out_after
-listed-none true row events = refl
-listed-none false row events = refl
+none-to-come true row kept = refl
+none-to-come false row kept = refl
 
--- at most as many events are left out as there are
-pub listed-few : (listed : Bool) (row : ℕ) (events : List StandingEvent) → length (left_if listed row events) ≤ length events
-listed-few true row events = few-left row events
-listed-few false row events = omega arith
-
--- a mend in place: `now` is `before` with what is kept of the first `at` events at its front
-pub record IsInPlace (row : ℕ) (before now : List StandingEvent) (kept at : ℕ) (board : List ℕ) : Type 0 where
-  pub front : take kept now ≡ mended row (take at before)
-  pub rest : drop at now ≡ drop at before
-  pub long : length now ≡ length before
-  pub behind : kept ≤ at
-  pub so_far : IsMendedSoFar row (take at before) board
-
--- the next event of a mend in place
-module _ (row : ℕ) (before now : List StandingEvent) (kept at : ℕ) (event : StandingEvent) (board board2 : List ℕ) (s : IsInPlace row before now kept at board)
-    (below : at < length now) (is : event ≡ get_or now at event) where
-  in-before : at < length before
-  in-before = let long = s.long in omega arith
-
-  pub same-event : event ≡ get_or before at event
-  same-event =
-      let zero : at + 0 ≡ at = omega arith in
-      let same = sym (get_or-drop at now 0 event) ∙ ap (λ (l : List StandingEvent). get_or l 0 event) s.rest ∙ get_or-drop at before 0 event in
-      is ∙ (rw zero at same)
-
-  next-rest : drop (at + 1) now ≡ drop (at + 1) before
-  next-rest = sym (drop-drop 1 at now) ∙ ap (drop 1) s.rest ∙ drop-drop 1 at before
-
-  -- the next event of a mend in place is kept, and put behind those that are kept
-  pub in-place-kept : (fate : Fate) → fate ≡ Kept → MendsOneMore row event fate board board2
-      → IsInPlace row before (set now kept event) (kept + 1) (at + 1) board2
-  in-place-kept fate is_kept goes =
-      let behind = s.behind in
-      let by = (goes (take at before) s.so_far).0 in record {
-        front = take_more_set now kept event (omega arith) ∙ ap (λ (l : List StandingEvent). l ++ event ∷ []) s.front
-            ∙ ap (kept_by (mended row (take at before)) event) (sym is_kept ∙ by) ∙ sym (mended-front row before at event in-before same-event);
-        rest = drop-set-lt (at + 1) now kept event (omega arith) ∙ next-rest;
-        long = length-set now kept event ∙ s.long;
-        behind = omega arith;
-        so_far = so-far-more row before at event in-before same-event fate board board2 s.so_far goes;
-      }
-
-  -- the next event of a mend in place is not kept, and stays where it is
-  pub in-place-left : (fate : Fate) → ((l : List StandingEvent) → kept_by l event fate ≡ l) → MendsOneMore row event fate board board2
-      → IsInPlace row before now kept (at + 1) board2
-  in-place-left fate none goes =
-      let behind = s.behind in
-      let by = (goes (take at before) s.so_far).0 in record {
-        front = s.front ∙ sym (none (mended row (take at before))) ∙ ap (kept_by (mended row (take at before)) event) by
-            ∙ sym (mended-front row before at event in-before same-event);
-        rest = next-rest;
-        long = s.long;
-        behind = omega arith;
-        so_far = so-far-more row before at event in-before same-event fate board board2 s.so_far goes;
-      }
+-- a mend in place that has gone through all events has listed all that it leaves out
+pub in-place-ends : (row : ℕ) (listed : Bool) (before now : List StandingEvent) (kept at : ℕ) (board : List ℕ) (left : List LeftOut)
+    → IsInPlace row listed before now kept at board left → length now ≤ at → left ≡ left_if listed row before
+in-place-ends row listed before now kept at board left s past =
+    let none = ap (left_to_come listed row (take kept now)) (drop_all at now past) ∙ none-to-come listed row (take kept now) in
+    sym (ap (λ (l : List LeftOut). left ++ l) none ∙ append-nil left) ∙ s.out
 
 -- the version of the board is how many events stand, at most 49,140
 pub few : (events : List StandingEvent) → IsLegal (history_in events) → (version_of (board_of (history_in events)) ≡ length events) × (length events ≤ 49140)

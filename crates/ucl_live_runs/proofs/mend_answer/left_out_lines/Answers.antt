@@ -1,5 +1,5 @@
 use Rattle.ucl_live_runs.proofs.Common.{◌∙◌}
-use Rattle.ucl_live_runs.proofs.MendLines.{left-more}
+use Rattle.ucl_live_runs.proofs.AnswerLines.{left-more}
 use Rattle.ucl_live_runs.proofs.mend_answer.left_out_lines.Goals as goal
 
 pub loop-out-preserved : goal.loop-out-preserved
