@@ -325,8 +325,8 @@ in-place-next row listed before now kept at board left s event fate board2 below
       whole = ap₂ (fold (kept_after row)) after rest ∙ ap (fold (kept_after row) (take kept now)) (sym here) ∙ s.whole;
       behind = behind;
       long = long ∙ s.long;
-      out = ap₂ (λ (a b : List LeftOut). a ++ b) (list ∙ ap (λ (f : Fate). left ++ out f) fated.0) (ap₂ (left_to_come listed row) after rest)
-          ∙ out-next row listed (take kept now) event (drop (at + 1) now) left
+      out = ap₂ (λ (a b : List LeftOut). a ++ b) (list ∙ ap (λ (f : Fate). left ++ out f) fated.0)
+          (ap₂ (left_to_come listed row) after rest) ∙ out-next row listed (take kept now) event (drop (at + 1) now) left
           ∙ ap (λ (l : List StandingEvent). left ++ left_to_come listed row (take kept now) l) (sym here) ∙ s.out;
       few = let one = at-most-one listed event fate in let both = length-append left (out fate) in let few = s.few in
           rw list (omega (arith, one, both, few));

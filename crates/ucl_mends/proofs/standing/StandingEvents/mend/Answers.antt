@@ -28,8 +28,8 @@ loop-at-preserved c =
     let s = c.loop-at.invariant.in_place in
     let behind = s.behind in
     let below : at < length now = let long = s.long in let whole = ap length c.self.view_is in omega arith in
-    let next = in-place-next c.args.row c.args.listed c.args.self.now now kept at c.loop-at.board c.loop-at.left.items s event c.enter_again.result
-    c.enter_again.new.board below c.index.ensures c.enter_again.ensures in
+    let next = in-place-next c.args.row c.args.listed c.args.self.now now kept at c.loop-at.board c.loop-at.left.items s event
+    c.enter_again.result c.enter_again.new.board below c.index.ensures c.enter_again.ensures in
     elim c.match-enter_again.branch [
       | in-Kept w ↦ rw (w.kept-is, w.self-inside-is, w.left-is) (record {
         in_place = next (set now kept event) (kept + 1) _
@@ -46,7 +46,8 @@ loop-at-preserved c =
         room = c.loop-at.invariant.room;
       })
       | in-Refused w ↦ rw (w.kept-is, w.self-inside-is, w.left-is) (record {
-        in_place = next now kept _ (ap (kept_by (take kept now) event) (sym w.in-Refused.is)) refl refl (omega arith) (w.put_left.ensures.items
+        in_place = next now kept _ (ap (kept_by (take kept now) event) (sym w.in-Refused.is)) refl refl (omega arith)
+            (w.put_left.ensures.items
             ∙ ap (λ (f : Fate). c.loop-at.left.items ++ (if c.args.listed then left_by event f else [])) (sym w.in-Refused.is));
         enough = c.loop-at.invariant.enough;
         room = λ on. rw w.put_left.ensures.room (c.loop-at.invariant.room on);
