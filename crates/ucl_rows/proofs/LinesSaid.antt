@@ -1,9 +1,10 @@
 -- What a line says, behind which there is a line feed.
-use Rattle.ucl_rows.proofs.Common.{List, Row, [], ap, arith, default_config, fits, of_rows, records, refl, said_on, sym, true, ℕ, ◌++◌}
+use Rattle.ucl_rows.proofs.Common.{List, Row, [], ap, arith, default_config, fits, of_rows, records, refl, said_on, sym, cases_Bool, false, inl, inr, true, ℕ, ◌++◌}
 use Rattle.ucl_rows.proofs.Common.{◌<◌, ◌∙◌, ◌∷◌, ◌≡◌}
 use Rattle.std.proofs.Common.{ne_eqb}
+use Rattle.std.specs.Prelude.{Err, IfErr, Ok, Result}
 use Rattle.ucl_screen.specs.Rows.{Fields, FourFields}
-use Rattle.ucl_screen.specs.PlainRows.{BeginsWithRow, fields_of_four}
+use Rattle.ucl_screen.specs.PlainRows.{BeginsWithRow, fields_of_four, has_quote}
 use Rattle.ucl_screen.proofs.PlainRows.{no_rows_fed}
 use Rattle.ucl_rows.specs.Rows.{Nothing, Said, said_by_text}
 
@@ -20,3 +21,12 @@ says_four text rest f b none = sym (ap of_rows (b.rows (10 ∷ []) refl ∙ ap (
 pub says_later : (row : ℕ) (line : List ℕ) (said : Said) → 1 < row → fits (line ++ 10 ∷ []) ≡ true → said ≡ of_rows (records default_config (line ++ 10 ∷ [])) → said_on row line ≡ said
 unfolding said_by_text
 says_later row line said later short is = rw (short, ne_eqb row 1 (λ e. omega arith)) (sym is)
+
+-- a line of which only `csv` can read a row has a quote: without one, neither it nor the line without its byte order mark is left to `csv`
+pub has_one : (line bare : List ℕ) → (has_quote line ≡ false → has_quote bare ≡ false) → (has_quote bare ≡ false → ⊥) → has_quote line ≡ true
+has_one line bare keeps none = elim (cases_Bool (has_quote line)) [ inl y ↦ y | inr n ↦ absurd (none (keeps n)) ]
+
+-- what holds, holds where there is an error
+pub at_error : {T E : Type 0} (r : Result T E) {P : Type 0} → P → IfErr r (λ _. P)
+at_error (Ok value) p = tt
+at_error (Err error) p = p

@@ -1,8 +1,9 @@
 //! What a line says: the row on it, as the crate `csv` reads in its default dialect, or nothing. A line with more than 256 bytes before its
 //! end is not read, and counts as one of several rows. In contracts `said_on` is what a line says.
 
-ghost use Rattle.std.specs.Prelude.{◌≡◌, ◌+◌, ◌≤◌, ◌∷◌, [], ◌++◌, IfErr, IfOk, IfSome, length, true};
+ghost use Rattle.std.specs.Prelude.{◌≡◌, ◌+◌, ◌≤◌, ◌∷◌, [], ◌++◌, IfErr, IfOk, IfSome, IsSome, false, length, true};
 ghost use Rattle.csv.specs.Reading.{default_config, records};
+ghost use Rattle.ucl_screen.specs.PlainRows.{has_quote};
 ghost use Rattle.ucl_screen.specs.Rows.{four_seen, rows_of};
 ghost use Rattle.ucl_rows.specs.Rows.{Row, fits, line_seen, of_rows, rows_on, said_on};
 
@@ -34,8 +35,9 @@ fn fits(line: &[u8]) -> bool
 
 /// Returns what a text, given without its line feed, says: `Some(None)` if it has no row, `None` if only `csv` can read one of its rows.
 fn plain_text(text: &[u8]) -> Option<Option<RowFields<'_>>>
-    ensures { IfSome result (λ said.
+    ensures said { IfSome result (λ said.
         line_seen said ≡ of_rows (records default_config (text.now ++ 10 ∷ []))) }
+    ensures plain { has_quote text.now ≡ false → IsSome result }
 {
     match first_row(text) {
         FirstRow::None => Some(None),
@@ -64,7 +66,8 @@ pub fn plain_row(row: u64, line: &[u8]) -> Option<Four<'_>>
 
 /// Returns the line with this number, given without its line feed, without the byte order mark that line 1 may begin with.
 fn unmarked(row: u64, line: &[u8]) -> &[u8]
-    ensures { rows_on row (line.now ++ 10 ∷ []) ≡ records default_config (result.now ++ 10 ∷ []) }
+    ensures rows { rows_on row (line.now ++ 10 ∷ []) ≡ records default_config (result.now ++ 10 ∷ []) }
+    ensures plain { has_quote line.now ≡ false → has_quote result.now ≡ false }
 {
     if row == 1 { without_mark(line) } else { line }
 }
@@ -117,7 +120,8 @@ pub fn read_row<'a>(
     record: &'a mut ByteRecord,
 ) -> Result<Option<RowFields<'a>>, AllocError>
     ensures said { IfOk result (λ said. line_seen said ≡ said_on row line.now) }
-    ensures memory { IfErr result (λ _. fits (line.now ++ 10 ∷ []) ≡ true) }
+    ensures memory { IfErr result
+        (λ _. (fits (line.now ++ 10 ∷ []) ≡ true) × (has_quote line.now ≡ true)) }
 {
     if !fits(line) {
         return Ok(Some(RowFields::Other));
