@@ -17,6 +17,7 @@ use Rattle.ucl_rows.specs.Run.{IsOfDriver}
 use Rattle.ucl_live_runs.specs.Phases.{other_group_text}
 use Rattle.ucl_rows.specs.InputLines.{last_lines}
 use Rattle.ucl_rows.specs.Rows.{Said, fits, said_on}
+use Rattle.ucl_screen.specs.PlainRows.{has_quote}
 use Rattle.ucl_live_runs.specs.declared.live_fault.LiveFault.{LiveFault}
 use Rattle.ucl_live_runs.specs.declared.live_fault.LiveFault.TheVariants.{OtherGroup, Run}
 use Rattle.ucl_rows.specs.declared.fault.RunFault.TheVariants.{OutOfMemory}
@@ -29,8 +30,6 @@ use Rattle.ucl_live_runs.specs.Mends.{edition_reply}
 use Rattle.ucl_live_runs.specs.Phases.{Reached}
 use Rattle.ucl_live_runs.specs.Requests.{request_of}
 use Rattle.ucl_live_runs.specs.declared.phase.Phase.TheVariants.{Open}
-use Rattle.ucl_live_runs.specs.declared.request.Mend.{Mend}
-use Rattle.ucl_live_runs.specs.declared.request.Mend.TheVariants.{Without}
 use Rattle.ucl_live_runs.specs.declared.request.Request.{Request}
 use Rattle.ucl_live_runs.specs.declared.request.Request.TheVariants.{Bad, Event, Mends}
 use Rattle.ucl_live_runs.specs.declared.phase.Phase.{Phase}
@@ -43,18 +42,13 @@ use Rattle.ucl_io.specs.declared.stream.Sink as writes
 
 -- ---- lack of memory
 
--- a mend of an open board, in text form, needs memory: it takes back the event of a row, or a screen follows its answer
-abbrev pub MendNeedsMemory : LiveArgs → Mend → Type 0
-MendNeedsMemory options (Without row) = ⊤
-MendNeedsMemory options mend = options.screens ≡ true
-
--- the answer of an open board to a request, in text form, needs memory: it shows the board, or a screen follows the answer to an event that
--- is accepted, or the request is a mend that is not refused and needs some
+-- the answer of an open board to a request, in text form, needs memory: it shows the board, or a screen follows it, as it does behind the
+-- answer to an event that is accepted and to a mend that is not refused
 abbrev pub RequestNeedsMemory : LiveArgs → BoardHeader → List StandingEvent → Request → Type 0
 RequestNeedsMemory options header events (Event event) =
     (options.screens ≡ true) × (is_ok (sequential_reply (history_in events) event.call) ≡ true)
 RequestNeedsMemory options header events (Bad field) = ⊥
-RequestNeedsMemory options header events (Mends mend) = (is_ok (edition_reply header.edition events mend) ≡ true) × MendNeedsMemory options mend
+RequestNeedsMemory options header events (Mends mend) = (options.screens ≡ true) × (is_ok (edition_reply header.edition events mend) ≡ true)
 RequestNeedsMemory options header events request = ⊤
 
 -- what a session in this phase makes of a line that is not empty needs memory: the name of a club does, and each answer in JSON
@@ -64,9 +58,10 @@ RowNeedsMemory session (Ok (Open table)) said =
 RowNeedsMemory session (Ok phase) said = ⊤
 RowNeedsMemory session (Err fault) said = ⊥
 
--- a session needs memory at a line: for what it makes of it, or to read it, by `csv`, if it is not too long
+-- a session needs memory at a line: for what it makes of it, or to read it, by `csv`, if it has a quote and is not too long
 abbrev pub NeedsMemory : Session → List ℕ → Type 0
-NeedsMemory session line = (fits (line ++ 10 ∷ []) ≡ true) ⊎ RowNeedsMemory session session.phase (said_on session.row line)
+NeedsMemory session line =
+    ((fits (line ++ 10 ∷ []) ≡ true) × (has_quote line ≡ true)) ⊎ RowNeedsMemory session session.phase (said_on session.row line)
 
 -- ---- the handler
 

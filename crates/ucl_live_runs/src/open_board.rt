@@ -7,7 +7,7 @@ ghost use Rattle.ucl_screen.specs.Screen.{IsGroup};
 ghost use Rattle.ucl_rows.specs.Answers.{bytes_of};
 ghost use Rattle.ucl_rows.specs.BadRows.{shown_text};
 ghost use Rattle.ucl_rows.specs.Rows.{fields_seen};
-ghost use Rattle.ucl_live_runs.specs.SessionRuns.{MendNeedsMemory, RequestNeedsMemory, RowNeedsMemory, session_at};
+ghost use Rattle.ucl_live_runs.specs.SessionRuns.{RequestNeedsMemory, RowNeedsMemory, session_at};
 ghost use Rattle.ucl_live_runs.specs.LiveText.{answer_said, mend_answer, mended_stage, next, screen_if, stage};
 ghost use Rattle.ucl_live_runs.specs.Mends.{board_in, clubs_after, edition_after, edition_reply, events_after, left_by_format, mended_answer, row_named};
 ghost use Rattle.ucl_live_runs.specs.Phases.{open_at};
@@ -59,7 +59,7 @@ impl OpenBoard {
     }
 
     /// Does a mend that is not refused, and returns the events that it leaves out, if the answers are in JSON; else none. Fails only if out
-    /// of memory.
+    /// of memory, and only in JSON.
     fn change(&mut self, config: &Config, mend: &Mend<'_>) -> Result<Vec<LeftOut>, OutOfMemory>
         ensures done { OnOk result (self.new ≡ record self.old {
           roster = clubs_after self.old.roster mend.now;
@@ -67,7 +67,7 @@ impl OpenBoard {
         }) }
         ensures left { IfOk result (λ left. left.items ≡ left_by_format config.now.options.format self.old.events mend.now) }
         ensures few { IfOk result (λ left. length left.items ≤ 49140) }
-        ensures memory { IfErr result (λ _. MendNeedsMemory config.now.options mend.now) }
+        ensures memory { IfErr result (λ _. config.now.options.format ≡ Json) }
     {
         let alloc = config.alloc;
         match mend {
