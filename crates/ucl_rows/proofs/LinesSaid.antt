@@ -23,11 +23,11 @@ unfolding said_by_text
 says_later row line said later short is = rw (short, ne_eqb row 1 (λ e. omega arith)) (sym is)
 
 -- a line of which only `csv` can read a row has a quote: without one, neither it nor the line without its byte order mark is left to `csv`
-has_one : (line bare : List ℕ) → (has_quote line ≡ false → has_quote bare ≡ false) → (has_quote bare ≡ false → ⊥) → has_quote line ≡ true
-has_one line bare keeps none = elim (cases_Bool (has_quote line)) [ inl y ↦ y | inr n ↦ absurd (none (keeps n)) ]
+has_one : (line bare : List ℕ) → (has_quote line ≡ false → has_quote bare ≡ false) → (has_quote bare ≡ false → false ≡ true) → has_quote line ≡ true
+has_one line bare keeps none = elim (cases_Bool (has_quote line)) [ inl y ↦ y | inr n ↦ let both = none (keeps n) in cc ]
 
 -- a result of `csv`, to which a line goes that is not too long and that cannot be read without it, is an error only if the line has a quote
 pub only_quoted : {T E : Type 0} (r : Result T E) (line bare : List ℕ) → fits (line ++ 10 ∷ []) ≡ true → (has_quote line ≡ false → has_quote bare ≡ false)
-    → (has_quote bare ≡ false → ⊥) → IfErr r (λ _. (fits (line ++ 10 ∷ []) ≡ true) × (has_quote line ≡ true))
+    → (has_quote bare ≡ false → false ≡ true) → IfErr r (λ _. (fits (line ++ 10 ∷ []) ≡ true) × (has_quote line ≡ true))
 only_quoted (Ok said) line bare short keeps none = tt
 only_quoted (Err error) line bare short keeps none = (short, has_one line bare keeps none)
