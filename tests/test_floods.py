@@ -9,6 +9,7 @@ import json
 import multiprocessing
 import os
 import pathlib
+import random
 import re
 import resource
 import signal
@@ -347,3 +348,119 @@ def test_who_is_slow_is_gone_in_ten_seconds(hall, asked):
                 time.sleep(0.5)
         most = min(25, 12 + 3 * patience())
         assert (0 if asked == OWES else 8) < time.monotonic() - begun < most
+
+
+# ---- requests and frames that are none
+
+
+HEADS = [
+    *(
+        "GET / HTTP/1.1",
+        "GET /../../etc/passwd HTTP/1.1",
+        "GET /%00%ff HTTP/9.9",
+        "BREW / HTTP/1.1",
+    ),
+    *(
+        "GET /table.json?group=Z&group=A HTTP/1.1",
+        "GET /feed?group= HTTP/1.1",
+        "HEAD /lines HTTP/1.1",
+    ),
+    *("POST /report/0 HTTP/1.1", "GET http://elsewhere/ HTTP/1.1", "OPTIONS * HTTP/1.1", "GET"),
+]
+MORE = [
+    *(
+        "Host: 127.0.0.1",
+        "Host: elsewhere",
+        "Host: a\r\nHost: b",
+        "Origin: null",
+        "Upgrade: websocket",
+    ),
+    *(
+        "Connection: Upgrade",
+        "Sec-WebSocket-Version: 99",
+        "Sec-WebSocket-Key: x",
+        "Expect: 100-continue",
+    ),
+    *("Transfer-Encoding: chunked", "Content-Length: -1", "Content-Length: 99999999999999999999"),
+    *("Range: bytes=9-1", "If-None-Match: *", ": no name", "Cookie: " + "x" * 9_000),
+]
+VALUES = [
+    *(
+        None,
+        True,
+        -1,
+        0,
+        1,
+        1.5,
+        13,
+        4_096,
+        1e300,
+        "",
+        "1",
+        "kickoff",
+        "goal-home",
+        "\x00",
+        "\ud800",
+    ),
+    *([], {}, [[[[]]]], ["kickoff"], "f" * 32, "x" * 900),
+]
+
+
+def hostile_request(chance, port, source):
+    """One request that is none, or a part of one, or bytes without sense."""
+    lines = [chance.choice(HEADS), *chance.sample(MORE, chance.randint(0, 5))]
+    text = "\r\n".join([*lines, "", ""]).encode() + chance.randbytes(
+        chance.choice([0, 0, 9, 3_000])
+    )
+    sent = chance.choice([text, text, text[: chance.randint(0, len(text))], chance.randbytes(200)])
+    with connected(port, source) as one:
+        one.sendall(sent)
+        one.settimeout(0.05)
+        with contextlib.suppress(OSError):
+            one.recv(4_096)
+
+
+def hostile_frames(chance, port, source, link):
+    """Twenty frames on a WebSocket, of a stolen link or of screens: texts that are no tap, and frames that are none."""
+    one = Socket(port, chance.choice([link, "/lines"]), source=source)
+    names = ["tap", "again", "ask", "events", "match", "edition", "expected", "event", "of", ""]
+    for _ in range(20):
+        said = {name: chance.choice(VALUES) for name in chance.sample(names, chance.randint(0, 8))}
+        text = chance.choice([json.dumps(said), "{" * 400, "null", "[1e999]", '{"tap":NaN}'])
+        data = chance.choice([text.encode(), text.encode()[:9], chance.randbytes(300)])
+        if chance.random() < 0.2:
+            one.socket.sendall(chance.randbytes(chance.randint(1, 40)))
+        one.send(data, opcode=chance.choice([0x81, 0x81, 0x81, 0x82, 0x80, 0x01, 0x89, 0x83, 0xF1]))
+
+
+@pytest.mark.limit(900)
+def test_hostile_requests_and_frames(hall, kills, seed):
+    """Two thousand, at night so many as are asked for, from a hundred addresses: no row of two honest phones is lost, and none is twice."""
+    print(f"--seed {seed}")
+    one, chance, count = hall(*HONEST), random.Random(seed), kills if kills > 100 else 2_000
+    link = f"/report/{one.key(9)}/taps"
+    phones = [Honest(one.phone(it), it) for it in (1, 2)]
+    sent = 0
+    while sent < count:
+        source = f"127.0.2.{chance.randint(1, 100)}"
+        is_request = chance.random() < 0.7
+        with contextlib.suppress(OSError, IndexError):
+            if is_request:
+                hostile_request(chance, one.port, source)
+            else:
+                hostile_frames(chance, one.port, source, link)
+        sent += 1 if is_request else 20
+    for phone in phones:
+        phone.is_over.set()
+        phone.join(30)
+        assert not phone.is_alive() and phone.took
+        events = ["kickoff", *["goal-home", "disallow-home"] * len(phone.took)]
+        wanted = [
+            f"{phone.match},{phone.match},{it},{events[it]}" for it in range(len(phone.took) + 1)
+        ]
+        assert [row for row in one.rows() if row.startswith(f"{phone.match},")] == wanted
+    most, longest = took(phones)
+    print(
+        f"{sent} sent, {sum(len(it.took) for it in phones)} taps: nine of ten within {most:.3f} s, the longest {longest:.3f} s, {most_memory(one) >> 20} MB"
+    )
+    assert most_memory(one) < MOST_MEMORY and one.health()["fault"] == ""
