@@ -37,12 +37,12 @@ def test_writers_that_share_a_pipe(program, place):
 
 
 def test_first_look(program, place):
-    """The README's command, typed as it stands there, gives the table at its top."""
+    """The README's command, typed as it stands there, gives its first table."""
     program("ucl_live")
     (line,) = re.findall(r"^\(cat .*$", README, re.M)
     assert (
         command(["bash", "-c", line], cwd=place).output
-        == re.search(r"^```\n((?s:.*?))^```$", README, re.M)[1]
+        == re.search(r"^```\n( +Club(?s:.*?))^```$", README, re.M)[1]
     )
 
 
