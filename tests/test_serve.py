@@ -197,6 +197,13 @@ REFUSED = [
 
 
 @pytest.mark.quick
+def test_records_stand_wherever_they_are_typed():
+    options = options_of("a.csv --clubs a --listen 0.0.0.0:8080 b.csv --clubs b".split())
+    assert (options.records, options.clubs) == (["a.csv", "b.csv"], ["a", "b"])
+    assert options_of(["--links", "a.csv", "--url", "http://x", "b.csv"]).records[1:] == ["b.csv"]
+
+
+@pytest.mark.quick
 @pytest.mark.parametrize("line", REFUSED)
 def test_command_lines_that_are_refused(capsys, line):
     with pytest.raises(SystemExit) as ended:

@@ -121,7 +121,9 @@ def options_of(words: Sequence[str]) -> Options:
     parser.add_argument("--clubs", action="append", default=[])
     parser.add_argument("--group", dest="groups", choices=[*GROUPS], action="append")
     parser.add_argument("--order", choices=ORDERS, default="uefa")
-    said = parser.parse_args(words, Options())
+    said = Options()
+    # A record may stand behind an option, as a second one does behind the file of the first.
+    parser.parse_intermixed_args(words, said)
     if bool(said.records) == bool(said.follow):
         parser.error("give each RECORD, or --follow for each server that is followed")
     of_records = said.reporters or said.tonight or said.revoked or said.new_keys
