@@ -8,38 +8,38 @@ from model import CLUBS, entered, parsed, screen
 
 # By the mistake what was typed, and what was meant: matches and events.
 MEANT = {
-    "a goal that was none": ("1 kickoff, 1 goal-home", "1 kickoff"),
-    "a goal for the wrong side: home for away": (
+    "the referee disallows a goal, or there was none": ("1 kickoff, 1 goal-home", "1 kickoff"),
+    "a goal was entered for the home side, and is the visitors'": (
         "1 kickoff, 1 goal-home",
         "1 kickoff, 1 goal-away",
     ),
-    "a goal for the wrong match": (
+    "a goal was entered in the wrong match": (
         "1 kickoff, 2 kickoff, 1 goal-home",
         "1 kickoff, 2 kickoff, 2 goal-home",
     ),
-    "a goal that was disallowed, and counts": (
+    "a goal was taken away, and the referee gives it": (
         "1 kickoff, 1 goal-home, 1 disallow-home",
         "1 kickoff, 1 goal-home",
     ),
-    "full time, and the match goes on": (
+    "full time was entered, and the match goes on": (
         "1 kickoff, 1 goal-away, 1 fulltime",
         "1 kickoff, 1 goal-away",
     ),
-    "a reopening, and the match was over": (
+    "a match was reopened, and is over": (
         "1 kickoff, 1 fulltime, 1 reopen",
         "1 kickoff, 1 fulltime",
     ),
-    "a goal that was none in a match that is over": (
+    "a goal is too many in a match that is over": (
         "1 kickoff, 1 goal-home, 1 fulltime",
         "1 kickoff, 1 fulltime",
     ),
-    "a goal that was forgotten in a match that is over": (
+    "a goal is missing in a match that is over": (
         "1 kickoff, 1 fulltime",
         "1 kickoff, 1 goal-away, 1 fulltime",
     ),
 }
 PAIRS = re.findall(
-    r"^\| (.+?) \| ((?:`\d+ [a-z ]+` ?)+) \|$", text_of(TOP / "docs/OPERATE.md"), re.M
+    r"^\| (.+?) \| ((?:`\d+ [a-z ]+`(?:, then )?)+) \|$", text_of(TOP / "docs/OPERATE.md"), re.M
 )
 TYPED = {mistake: re.findall(r"`(\d+) (.+?)`", typed) for mistake, typed in PAIRS}
 

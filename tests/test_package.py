@@ -315,7 +315,7 @@ def test_where_nothing_is(roots, dist, place):
     page = text_of(TOP / "README.md")
     (line,), table = (
         re.findall(r"^\(cat .*$", page, re.M),
-        re.search(r"^```\n((?s:.*?))^```$", page, re.M)[1],
+        re.search(r"^```\n( +Club(?s:.*?))^```$", page, re.M)[1],
     )
     assert root.needs(line.replace("./", "").replace("examples/", f"{DOC}/")) == table
     evening = f"(cat {DOC}/two_matches.csv; echo screen,,,) | ucl_live --format json | ucl_follow 2>/dev/null | tail -n 6"

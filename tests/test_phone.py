@@ -48,19 +48,20 @@ def test_two_phones_and_a_tablet_tap_one_goal_at_once(hall: Halls, browsers: Bro
     assert [it.text("goals") for it in devices] == ["1\u20130"] * 3
 
 
-def test_a_link_that_has_ended(hall, phone):
-    """The phone says so, and not that there is no connection; it goes on if the link is known again."""
+def test_a_link_that_has_ended(hall: Halls, browsers: Browsers) -> None:
+    """The phone says so, and not that there is no connection; it goes on if the link is known
+    again."""
     one = hall("--reporter", "1")
     keys = (one.folder / "a.csv.keys").read_bytes()
-    phone.open(one)
+    phone = Phone(browsers("phone")).open(one)
     one.end()
-    assert until(lambda: phone.line() == OFFLINE, 10)
+    assert until(lambda: phone.text("line") == OFFLINE, 60)
     one.start("--revoke", "1")
-    assert until(lambda: phone.line() == "This link has ended: ask for a new one", 20)
+    assert until(lambda: phone.text("line") == "This link has ended: ask for a new one", 60)
     one.end()
     (one.folder / "a.csv.keys").write_bytes(keys)
     one.start()
-    assert until(lambda: phone.line() == "Reporter 1, group A", 20)
+    assert until(lambda: phone.text("line") == "Reporter 1, group A", 60)
 
 
 @pytest.mark.parametrize("end", ["it is killed", "it goes on"])
