@@ -325,9 +325,9 @@ def test_what_was_asked_about_is_entered_by_no_server(
 
 
 @contextlib.asynccontextmanager
-async def losing(nodes: Nodes, chance: random.Random, lost: float) -> Any:
-    """A node that does what it is asked, and whose answers to transactions are lost so often. Gives
-    its port."""
+async def losing(nodes: Nodes, chance: random.Random, lost: float, status: int = 0) -> Any:
+    """A node that does what it is asked, and whose answers to transactions are lost so often, with
+    the connection, or behind a proxy that answers by this status. Gives its port."""
     async with ClientSession() as session:
 
         async def forward(request: web.Request) -> web.StreamResponse:
@@ -335,6 +335,8 @@ async def losing(nodes: Nodes, chance: random.Random, lost: float) -> Any:
             async with session.post(url, data=await request.read()) as answer:
                 body = await answer.read()
             if request.path.endswith("txn") and chance.random() < lost and request.transport:
+                if status:
+                    return web.Response(status=status)
                 request.transport.abort()
             return web.Response(body=body, status=answer.status)
 
@@ -361,11 +363,12 @@ def lies(nodes: Nodes, place: str, found: Sequence[tuple[str, int]]) -> int:
     return sum(len(rows) < row or id.encode() not in rows[row - 1] for id, row in found)
 
 
-def test_an_answer_that_is_lost(nodes: Nodes, live: str) -> None:
+@pytest.mark.parametrize("status", [0, 502, 503, 504])
+def test_an_answer_that_is_lost(nodes: Nodes, live: str, status: int) -> None:
     """Four of five are: each row is in once, at the row that is told."""
 
     async def work(place: str) -> None:
-        async with losing(nodes, random.Random(5), 0.8) as port:
+        async with losing(nodes, random.Random(5), 0.8, status) as port:
             record = await Record.open(f"etcd://127.0.0.1:{port}/{place.rsplit('/', 1)[1]}", live)
             found = await told(record, 25)
             await record.close()

@@ -4,7 +4,7 @@ answers whatever the test gives. What a record does about these faults is in tes
 import asyncio
 import errno
 import json
-from collections.abc import Awaitable, Callable
+from collections.abc import Awaitable, Callable, Sequence
 from typing import Any
 
 import model
@@ -19,9 +19,9 @@ from ucl_hall.faults import CutOff, DiskFails, Dropped, Held, Lost, NotWritten, 
 from ucl_hall.record.board import Board as AnyBoard
 from ucl_hall.record.sending import Entered, Events, Mend, Outcome
 from ucl_hall.rows import Row
-from ucl_hall.terminal.pending import Seen
+from ucl_hall.terminal.pending import Pending, Seen, Sent
 from ucl_hall.terminal.session import Session
-from ucl_hall.web.phones import WAYS, Reporter, message_of
+from ucl_hall.web.phones import WAYS, Reporter, events_told, message_of
 from ucl_hall.web.shown import Shown
 
 pytestmark = pytest.mark.quick
@@ -164,6 +164,29 @@ def test_messages_that_are_no_taps(text: str) -> None:
         message_of(text, [1])
 
 
+class Stood(Board):
+    """A board on which these events of match 1 stand."""
+
+    stand = [Event(row, 1, 1, "goal-home") for row in range(6, 18)]
+
+    def events(self, match: int) -> Sequence[Event]:
+        """Those of match 1."""
+        return self.stand if match == 1 else []
+
+
+def test_the_last_events_have_the_numbers_that_they_gave_their_match() -> None:
+    """Of twelve that stand the last ten, and those of all; no other match has any."""
+
+    async def work() -> None:
+        board = Stood(moment_of(STARTED))
+        for most, first in (10, 3), (12, 1), (99, 1):
+            told = [(it["row"], it["number"]) for it in events_told(board, 1, most)]
+            assert told == [(number + 5, number) for number in range(first, 13)]
+        assert events_told(board, 2, 10) == []
+
+    asyncio.run(work())
+
+
 class Lines:
     """A display that keeps its lines."""
 
@@ -286,6 +309,19 @@ def test_what_others_enter_is_told() -> None:
         assert shown.lines == [told]
 
     at_terminal(work)
+
+
+def test_own_rows_of_an_edition_that_is_over_wait_no_more() -> None:
+    """Who types next sees the numbers of the board as it is drawn."""
+    row = Row(1, 3, "goal-home")
+    pending, line = Pending(moment_of(STARTED)), Sent("1 goal home", [row])
+    pending.add(line)
+    line.numbers[row] = 4
+    pending.done(line)
+    assert pending.look().waiting == (1,)
+    mended = moment_of(STARTED + "mend,7,,\n")
+    pending.is_drawn(mended)
+    assert pending.look() == Seen(mended, ())
 
 
 class Silent(Shown):

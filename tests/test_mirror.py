@@ -212,11 +212,14 @@ def test_a_pipe_that_loses_the_last_line(mirrors: Mirrors) -> None:
     mirror = mirrors("--follow", "-")
     put(mirror, [*LINES[:-1], PULSE])
     assert mirror.shows(len(LINES) - 1)
-    for _ in range(4):
-        put(mirror, [PULSE])
-        time.sleep(0.3)
-    assert not mirror.is_there() and int(got(mirror.port, "/table.txt")[1]["age"]) >= 1
-    put(mirror, [LINES[-1]])
+    # The second is of a source that is behind: it shows what the mirror shows, and not the board.
+    behind = PULSE.replace(str([0, len(LINES)]), str([0, len(LINES) - 1]))
+    for pulses in [PULSE], [PULSE, behind]:
+        for _ in range(4):
+            put(mirror, pulses)
+            time.sleep(0.3)
+        assert not mirror.is_there() and int(got(mirror.port, "/table.txt")[1]["age"]) >= 1
+    put(mirror, [PULSE, LINES[-1]])
     assert mirror.shows(len(LINES)) and until(mirror.is_there)
     # A pulse of a board that was begun anew is none of this picture.
     begun_anew = PULSE.replace(str([0, len(LINES)]), "[0, 0]")

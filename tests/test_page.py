@@ -529,6 +529,19 @@ def test_no_signal_where_nothing_comes_or_no_word_of_the_group(sheet):
 
 
 @pytest.mark.quick
+@pytest.mark.parametrize("words, seconds", [("group=A", 5), ("group=A&silence=12", 12)])
+def test_after_how_many_seconds_there_is_no_signal(sheet, words, seconds):
+    """Five, or as many as the address says."""
+    signal = "tell(); return shown()['A'].signal"
+    sheet.open(words)
+    sheet.take(SEASON["A"][0].line())
+    sheet.run(f"ahead += {seconds} - 0.5")
+    assert sheet.run(signal) == ""
+    sheet.run("ahead += 1")
+    assert sheet.run(signal) == "No signal"
+
+
+@pytest.mark.quick
 def test_for_how_long_there_is_no_signal(sheet):
     """It stands behind the words, once there was one."""
     a, old = SEASON["A"][0], "tell(); return document.querySelector('.signal').dataset.old || ''"

@@ -324,6 +324,10 @@ def test_a_mend_is_asked_about_and_appended(tmp_path: pathlib.Path, live: str) -
         assert [it.row for it in changed.value.trial.left_out] == [11]
         await record.enter(Mend(changed.value.trial))
         assert record.moment.age == (2, 2) and [it.row for it in record.events(1)] == [6]
+        # What a mend that stands has left out is no part of what the next one would.
+        for row in goal(record), Row(1, 2, "disallow-home"):
+            await record.enter(sent(row, edition=2))
+        assert [it.row for it in (await record.trial(LeaveOut(13))).left_out] == [14]
 
     held(tmp_path, STARTED, work, live)
 

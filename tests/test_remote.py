@@ -13,18 +13,20 @@ import signal
 import threading
 import time
 from collections.abc import AsyncIterator, Awaitable, Callable, Iterator
+from dataclasses import asdict
 from typing import Any
 
 import model
 import pytest
 from aiohttp import web
 from conftest import TOP, Run, Started, command, free_port
+from drivers.board import lines_to, moment_of
 from feeds import until
 from terminals import Terminal
 from test_serve import hall as hall
 
 from ucl_hall.faults import NotEntered, Over
-from ucl_hall.record.sending import Events
+from ucl_hall.record.sending import Entered, Events
 from ucl_hall.remote.board import Remote
 from ucl_hall.remote.link import Link
 from ucl_hall.rows import Row
@@ -458,6 +460,29 @@ def test_a_server_that_says_anything() -> None:
     asyncio.run(work())
 
 
+def test_an_answer_that_overtakes_its_moment() -> None:
+    """On a slow line: it is told once the moment that the terminal shows has the event."""
+    begun = model.CLUBS + "1,1,0,kickoff\n"
+    entered = {**asdict(moment_of(begun).match(1)), "row": 5}
+
+    async def taps(request: web.Request) -> web.WebSocketResponse:
+        socket = await connected(request, *greeting())
+        async for message in socket:
+            await socket.send_str(answer(json.loads(message.data)["tap"], outcomes=[entered]))
+            await asyncio.sleep(0.3)
+            await socket.send_str(lines_to(begun)[-1].decode())
+        return socket
+
+    async def work() -> None:
+        async with serving(free_port(), taps) as link:
+            remote = await Remote.open(link)
+            (outcome,) = await remote.enter(KICKOFF)
+            assert isinstance(outcome, Entered) and outcome.match == remote.moment.match(1)
+            await remote.close()
+
+    asyncio.run(work())
+
+
 @pytest.mark.parametrize(
     "status, told",
     [
@@ -521,6 +546,31 @@ def test_a_link_goes_to_the_next_server(resends: bool, name: str, groups: str | 
     asyncio.run(work())
     said = {"edition": 0, "match": 1, "expected": 0, "events": ["kickoff"]}
     assert sent == [{"tap": KICKOFF.id, **said}, {name: KICKOFF.id, **said}]
+
+
+def test_a_server_of_another_security_is_not_asked() -> None:
+    """A link by http goes to no server by https, whatever the first one says."""
+    ports, asked, met = [free_port(), free_port()], list[int](), list[int]()
+
+    async def taps(request: web.Request) -> web.StreamResponse:
+        asked.append(ports[0])
+        return await connected(request, *greeting(at=[f"https://127.0.0.1:{ports[1]}"]))
+
+    def meet(_: asyncio.StreamReader, writer: asyncio.StreamWriter) -> None:
+        met.append(ports[1])
+        writer.close()
+
+    async def work() -> None:
+        other = await asyncio.start_server(meet, "127.0.0.1", ports[1])
+        async with other, serving(ports[0], taps) as link:
+            remote = await Remote.open(link)
+            async with asyncio.timeout(60):
+                while len(asked) < 3:
+                    await asyncio.sleep(0.05)
+            await remote.close()
+
+    asyncio.run(work())
+    assert met == []
 
 
 def test_another_server_that_refuses_the_link() -> None:

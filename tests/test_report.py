@@ -269,6 +269,14 @@ def test_take_back(page: Page) -> None:
     assert page.run(hidden)
 
 
+def test_a_goal_that_came_before_the_page_was_open(page: Page) -> None:
+    """Nobody takes it back by one tap."""
+    page.begin(STARTED + "1,1,3,goal-home\n")
+    page.choose(1)
+    assert page.text("last") == "In play. Goal, Bravo, by reporter 1"
+    assert page.run("return document.getElementById('back').hidden")
+
+
 # ---- no connection, and a page that is opened again
 
 
@@ -303,6 +311,14 @@ def test_a_page_that_is_loaded_again(page: Page) -> None:
     assert page.run("return sent()") == [{"ask": first.pop("tap"), **first}]
     page.answer("lost", "Not entered: it did not arrive")
     assert page.notes()["goal-home"] == "\u2717 Not entered: it did not arrive"
+
+
+def test_a_match_that_is_another_s_by_now(page: Page) -> None:
+    """A tap on it is not sent again, nor asked about: its server would end the connection."""
+    page.begin(STARTED)
+    page.click("goal-home")
+    page.begin(STARTED, matches=[2, 3])
+    assert page.sent() == [tap_of("goal-home")] and page.run("return waiting.size") == 0
 
 
 def test_a_mend(page: Page) -> None:

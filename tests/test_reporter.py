@@ -658,7 +658,10 @@ def test_who_may_only_read_looks_on(hall):
         fcntl.flock(file, fcntl.LOCK_EX)
         mine.before = ["setpriv", "--reuid=65534", "--clear-groups"]
         needs("setpriv")
-        for words, wanted in (["--watch"], mine.table()), ([], "Permission denied"):
+        for words, wanted in [
+            *((["--watch"], mine.table()), (["--sheet"], model.CLUBS), (["--rows"], STARTED)),
+            ([], "Permission denied"),
+        ]:
             ran = command(
                 ["timeout", "5", *mine.before, "./ucl_reporter", "evening.csv", *words],
                 cwd=mine.path,
