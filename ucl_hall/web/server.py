@@ -149,7 +149,8 @@ class Server:
         if self._hall != before:
             self.screens.send("hall", self._hall)
         self.screens.send("pulse", line)
-        for group in self.groups:
+        for group in self._reported:
+            # A mirror tells it of each feed.
             group.look()
         self.notices.tell()
         self._cut_off = self.notices.all_cut_off
