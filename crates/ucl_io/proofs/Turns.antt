@@ -286,8 +286,8 @@ module _ {M F T : Type 0} {D : LineRules M F} {cap : ℕ} {at : T → Seen M} {c
   lines = ended_lines cap [] s.bytes
 
   -- the list of calls of the source until `new`, when these lines were given
-  abbrev Logged : List T → T → Given M F → Type 0
-  Logged log3 new given = LogsCalls count log log3 (count start) (count new) (λ time. IsPromptAt D.line cap (at start) (at time) given)
+  abbrev LoggedStep : List T → T → Given M F → Type 0
+  LoggedStep log3 new given = LogsCalls count log log3 (count start) (count new) (λ time. IsPromptAt D.line cap (at start) (at time) given)
 
   -- there were no more lines than bytes
   pub row_low : row ≤ 1 + length s.bytes
@@ -299,9 +299,9 @@ module _ {M F T : Type 0} {D : LineRules M F} {cap : ℕ} {at : T → Seen M} {c
 
   -- a run that ends now, after an answer to a last line without an end, did what `serve_lines` says
   served : (new : T) {log3 : List T} (last : List ℕ) (result : Result ℕ (ServeFault F)) → Consumes (at start).device.left (at new).device.left s.bytes
-      → Logged log3 new (given_by s.answered) → IsOut (at start).device (at new).device (s.answered.text ++ last) result
+      → LoggedStep log3 new (given_by s.answered) → IsOut (at start).device (at new).device (s.answered.text ++ last) result
       → ServeEnds D cap (at start) (at new) (record { bytes = s.bytes; given = given_by s.answered; rest = s.answered.rest; last = last }) result
-      → ServedBy D cap (at start) (at new) result (Logged log3 new)
+      → ServedBy D cap (at start) (at new) result (LoggedStep log3 new)
   served new last result consumed logged out ends = record {
     run = record { bytes = s.bytes; given = given_by s.answered; rest = s.answered.rest; last = last };
     consumed = consumed;
@@ -318,12 +318,12 @@ module _ {M F T : Type 0} {D : LineRules M F} {cap : ℕ} {at : T → Seen M} {c
   all_text new same sound = (rw (same, append-nil) gone, sound ∙ s.answered.ends.3.sound)
 
   -- more bytes came than any input has
-  pub run_too_long : 2 ^ 62 < length s.bytes → ServedBy D cap (at start) (at now) (Err TooLong) (Logged log2 now)
+  pub run_too_long : 2 ^ 62 < length s.bytes → ServedBy D cap (at start) (at now) (Err TooLong) (LoggedStep log2 now)
   run_too_long long = served now [] (Err TooLong) s.consumed s.logged (all_text now refl refl) (long, (s.answered.ends.0, s.answered.ends.1), (refl, refl))
 
   -- the source is called once more: from `now` to `new`
   module _ (new : T) {log3 : List T} (logs : log3 ≡ log2 ++ now ∷ []) (counts : count new ≡ count now + 1) where
-    abbrev pub asked : Logged log3 new (given_by s.answered)
+    abbrev pub asked : LoggedStep log3 new (given_by s.answered)
     asked = logs-then count log log2 log3 (count start) (count now) (count new) _ now s.bytes s.logged logs counts refl s.more (record {
       text = s.answered.text;
       later = [];
@@ -338,7 +338,7 @@ module _ {M F T : Type 0} {D : LineRules M F} {cap : ℕ} {at : T → Seen M} {c
 
     -- if it failed, the run ends
     pub run_read_failed : (read : ℕ) → Keeps (at now).device.left (at new).device.left → (at new).device.taken ≡ (at now).device.taken → (at new).device.failed ≡ (at now).device.failed
-        → (at new).handler ≡ (at now).handler → read ≡ length s.bytes → ServedBy D cap (at start) (at new) (Err (ReadFailed read)) (Logged log3 new)
+        → (at new).handler ≡ (at now).handler → read ≡ length s.bytes → ServedBy D cap (at start) (at new) (Err (ReadFailed read)) (LoggedStep log3 new)
     run_read_failed read kept same sound left is =
         served new [] (Err (ReadFailed read)) (Consumes-kept (at start).device.left (at now).device.left (at new).device.left s.bytes s.consumed kept)
         asked (all_text new same sound) (is, (s.answered.ends.0, s.answered.ends.1), (left, refl))
@@ -359,7 +359,7 @@ module _ {M F T : Type 0} {D : LineRules M F} {cap : ℕ} {at : T → Seen M} {c
         abbrev all : Answered D.line (first_of (at start)) there (lines ++ ended_lines cap begun more) r
         all = answered_then s.answered there r q
 
-        abbrev pub asked_before : Logged log3 new (given_by all)
+        abbrev pub asked_before : LoggedStep log3 new (given_by all)
         asked_before = logs-as count log log3 (count start) (count new) _ _ (λ time bytes p. record {
           text = p.text;
           later = p.later ++ q.given;
@@ -389,7 +389,7 @@ module _ {M F T : Type 0} {D : LineRules M F} {cap : ℕ} {at : T → Seen M} {c
 
       -- a fault in the lines among them ends the run
       pub run_stopped : (f : ServeFault F) → Answered {V = ⊤} D.line current there (ended_lines cap begun more) (Err f)
-          → ServedBy D cap (at start) (at new) (Err f) (Logged log3 new)
+          → ServedBy D cap (at start) (at new) (Err f) (LoggedStep log3 new)
       run_stopped f q =
           let t = all (Err f) q in
           let w = why f t in record {
@@ -429,14 +429,14 @@ module _ {M F T : Type 0} {D : LineRules M F} {cap : ℕ} {at : T → Seen M} {c
       }
 
       -- if these are answered too, the run ends well
-      pub run_ended : (rows : ℕ) → rows + 1 ≡ row → Closed {V = ⊤} D.last current end begun (Ok tt) → ServedBy D cap (at start) (at new) (Ok rows) (Logged log3 new)
+      pub run_ended : (rows : ℕ) → rows + 1 ≡ row → Closed {V = ⊤} D.last current end begun (Ok tt) → ServedBy D cap (at start) (at new) (Ok rows) (LoggedStep log3 new)
       run_ended rows is (text, answered, put, none2) =
           let all = put_then (first_of (at start)).outlet current.outlet end.outlet s.answered.text text s.answered.ends.3 put in
           served new text (Ok rows) took_all asked (all_out (first_of (at start)).outlet end.outlet (s.answered.text ++ text) all refl none2, all.sound)
           ((let e = answered_row s.answered in omega arith), closed text _ answered)
 
       -- if they end in a fault, the run ends in it
-      ends_badly : (f : ServeFault F) → Closed {V = ⊤} D.last current end begun (Err f) → ServedBy D cap (at start) (at new) (Err f) (Logged log3 new)
+      ends_badly : (f : ServeFault F) → Closed {V = ⊤} D.last current end begun (Err f) → ServedBy D cap (at start) (at new) (Err f) (LoggedStep log3 new)
       ends_badly (WriteFailed count) (text, answered, w) =
           served new text (Err (WriteFailed count)) took_all asked
           (put_stops (first_of (at start)).outlet current.outlet end.outlet s.answered.text text count s.answered.ends.3 w) (inr (closed text _ answered))
@@ -446,5 +446,5 @@ module _ {M F T : Type 0} {D : LineRules M F} {cap : ℕ} {at : T → Seen M} {c
       ends_badly _ q = absurd q
 
       -- a fault in the bytes after the last line feed ends the run, also if it was told of a progress equal to this one
-      pub run_ends_badly : (f : ServeFault F) (b : Progress M) → Closed {V = ⊤} D.last b end begun (Err f) → b ≡ current → ServedBy D cap (at start) (at new) (Err f) (Logged log3 new)
+      pub run_ends_badly : (f : ServeFault F) (b : Progress M) → Closed {V = ⊤} D.last b end begun (Err f) → b ≡ current → ServedBy D cap (at start) (at new) (Err f) (LoggedStep log3 new)
       run_ends_badly f b q same = ends_badly f (subst (λ (x : Progress M). Closed {V = ⊤} D.last x end begun (Err f)) same q)

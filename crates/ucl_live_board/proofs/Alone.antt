@@ -1,6 +1,6 @@
 -- Whose steps the log of a board has: of passes that have a share; all of them, of a pass that has the whole.
 use Rattle.ucl_live_board.proofs.Common.{◌≡◌, ◌≢◌, ℕ, zero, suc, ◌<◌, ◌≤◌, List, ◌∷◌, ◌++◌, length, map, refl, sym, ap, ◌∙◌, subst, arith, eq-eqb, ne_eqb, []}
-use Rattle.ucl_live_board.proofs.Common.{All, IsSome, None, dite, some, get_elem?, ℕ_discrete, Entry, Taken, Logged, logged_by, Log, taken_by, entry_list}
+use Rattle.ucl_live_board.proofs.Common.{All, IsSome, None, dite, some, get_elem?, ℕ_discrete, Entry, TakenStep, LoggedStep, logged_by, Log, taken_by, entry_list}
 use Rattle.ucl_live_board.proofs.Common.{added_by, number_of, history_of, enlisted_by, IsLegalRule, View, Share, whole, Overlap, BoardInvariant, DidAllAlone}
 use Rattle.ucl_live_board.proofs.Common.{WholeIsAlone}
 use Rattle.ucl_log.specs.Log.{LogFacts}
@@ -8,15 +8,15 @@ use Rattle.ucl_log.proofs.Logs.{taken_none, below_more, log_facts}
 use Rattle.ucl_live_board.proofs.Halves.{in_whole}
 
 -- a step of a seat in front of a log is in front of the steps of this seat
-pub taken_here : (seat : ℕ) (t : Taken) (log : Log) → taken_by seat (logged_by seat t ∷ log) ≡ t ∷ taken_by seat log
+pub taken_here : (seat : ℕ) (t : TakenStep) (log : Log) → taken_by seat (logged_by seat t ∷ log) ≡ t ∷ taken_by seat log
 taken_here seat t log = search (arith, eq-eqb)
 
 -- a step of another seat in front of a log leaves the steps of a seat as they are
-pub taken_else : (seat other : ℕ) (t : Taken) (log : Log) → other ≢ seat → taken_by seat (logged_by other t ∷ log) ≡ taken_by seat log
+pub taken_else : (seat other : ℕ) (t : TakenStep) (log : Log) → other ≢ seat → taken_by seat (logged_by other t ∷ log) ≡ taken_by seat log
 taken_else seat other t log not = search (arith, ne_eqb)
 
 -- a log with a step of a seat in front has a step of this seat
-pub some_here : (seat : ℕ) (t : Taken) (log : Log) → taken_by seat (logged_by seat t ∷ log) ≢ []
+pub some_here : (seat : ℕ) (t : TakenStep) (log : Log) → taken_by seat (logged_by seat t ∷ log) ≢ []
 some_here seat t log none = let l = ap length (sym (taken_here seat t log) ∙ none) in omega arith
 
 -- if no other seat took steps, the log is the steps of this seat
@@ -35,7 +35,7 @@ view_at (v ∷ views) zero below = (v, refl)
 view_at (v ∷ views) (suc j) below = view_at views j (omega arith)
 
 -- a seat from n on took no step, if all steps of the log are of seats below n
-pub none_beyond : (n j : ℕ) (log : Log) → n ≤ j → All (λ (x : Logged). x.seat < n) log → taken_by j log ≡ []
+pub none_beyond : (n j : ℕ) (log : Log) → n ≤ j → All (λ (x : LoggedStep). x.seat < n) log → taken_by j log ≡ []
 none_beyond n j log le all = taken_none j log (below_more n j log le all)
 
 -- a share other than None, no share, is some share
@@ -43,15 +43,15 @@ pub some_acts : (s : Share) → s ≢ None → IsSome s
 some_acts s not = search arith
 
 -- the history of a log of one seat's steps is the entries that these steps added
-history_by : (seat : ℕ) (steps : List Taken) → history_of (map (logged_by seat) steps) ≡ added_by steps
+history_by : (seat : ℕ) (steps : List TakenStep) → history_of (map (logged_by seat) steps) ≡ added_by steps
 history_by seat [] = refl
 history_by seat (t ∷ steps) = ap (λ (l : List Entry). entry_list t.entry ++ l) (history_by seat steps)
 
 -- a pass that has a number took steps
-pub number_some : (n : ℕ) (steps : List Taken) → 1 ≤ n → number_of steps ≡ n → steps ≢ []
+pub number_some : (n : ℕ) (steps : List TakenStep) → 1 ≤ n → number_of steps ≡ n → steps ≢ []
 number_some n steps low is none = let e = ap number_of none in omega arith
 
-module _ (words_after : List Entry → ℕ → List ℕ) (May : Log → Logged → Type 0) (words : List ℕ) (views : List View) (r : BoardInvariant words_after May words views) where
+module _ (words_after : List Entry → ℕ → List ℕ) (May : Log → LoggedStep → Type 0) (words : List ℕ) (views : List View) (r : BoardInvariant words_after May words views) where
   -- the pass of a seat that took steps has a share
   pub seat_there : (j : ℕ) → taken_by j r.log ≢ [] → (u : View) × (get_elem? views j ≡ some u) × IsSome u.share
   seat_there j any = dite (native.Mathlib.Decide.dec_le (suc j) (length views))
@@ -73,7 +73,7 @@ module _ (words_after : List Entry → ℕ → List ℕ) (May : Log → Logged �
     idle_else : (j : ℕ) → j ≢ seat → taken_by j r.log ≡ []
     idle_else j not = by (taken_by j r.log) refl
       where
-        by : (steps : List Taken) → taken_by j r.log ≡ steps → taken_by j r.log ≡ []
+        by : (steps : List TakenStep) → taken_by j r.log ≡ steps → taken_by j r.log ≡ []
         by [] is = is
         by (t ∷ steps) is = absurd (not (only_it j (λ none. let l = ap length (sym none ∙ is) in omega arith)))
 
@@ -97,5 +97,5 @@ module _ (words_after : List Entry → ℕ → List ℕ) (May : Log → Logged �
         }
 
 -- if steps follow a legal rule, a pass whose share is the whole board entered all entries, and no other was enlisted
-pub whole_is_alone : (words_after : List Entry → ℕ → List ℕ) (May : Log → Logged → Type 0) → IsLegalRule May → WholeIsAlone words_after May
+pub whole_is_alone : (words_after : List Entry → ℕ → List ℕ) (May : Log → LoggedStep → Type 0) → IsLegalRule May → WholeIsAlone words_after May
 whole_is_alone words_after May legal words views r seat v here share = alone_there words_after May words views r legal seat v here share

@@ -1,6 +1,6 @@
 -- What a call leaves after its steps, on any shared board.
 use Rattle.ucl_live_board.proofs.Common.{◌≡◌, ℕ, ◌+◌, ◌≤◌, List, ◌∷◌, ◌++◌, length, refl, sym, ap, ◌∙◌, arith, le_refl, length-append, append-nil, append_assoc}
-use Rattle.ucl_live_board.proofs.Common.{[], Target, Taken, added_by, number_of, history_of, enlisted_by, begins_same, IsPrefix, begins_through, View, IsSound}
+use Rattle.ucl_live_board.proofs.Common.{[], Action, TakenStep, added_by, number_of, history_of, enlisted_by, begins_same, IsPrefix, begins_through, View, IsSound}
 use Rattle.ucl_live_board.proofs.Common.{pass_view_by, count_of, Takes, left_pass, second_pass, Entry, SeesOn, Continues, All-head, All-tail, note_pass}
 use Rattle.ucl_live_board.proofs.Common.{told_pass}
 use Rattle.ucl_live_board.proofs.Lists.{none_by_zero}
@@ -15,11 +15,11 @@ pub takes_none : (v : View) → Takes v [] v
 takes_none v = record { own = sym (append-nil v.own); copied = refl }
 
 -- if steps lead a pass from the view u to v, and further steps from v to w, all of them lead it from u to w
-pub takes_on : (u v w : View) (xs ys : List Taken) → Takes u xs v → Takes v ys w → Takes u (xs ++ ys) w
-takes_on u v w xs ys a b = record { own = b.own ∙ (ap (λ (l : List Taken). l ++ ys) a.own ∙ append_assoc u.own xs ys); copied = b.copied ∙ a.copied }
+pub takes_on : (u v w : View) (xs ys : List TakenStep) → Takes u xs v → Takes v ys w → Takes u (xs ++ ys) w
+takes_on u v w xs ys a b = record { own = b.own ∙ (ap (λ (l : List TakenStep). l ++ ys) a.own ∙ append_assoc u.own xs ys); copied = b.copied ∙ a.copied }
 
 -- a pass that took the steps xs counts `length xs` steps more
-pub takes_count : (v w : View) (xs : List Taken) → Takes v xs w → count_of w ≡ count_of v + length xs
+pub takes_count : (v w : View) (xs : List TakenStep) → Takes v xs w → count_of w ≡ count_of v + length xs
 takes_count v w xs t = search (arith, length-append v.own xs, length-append v.copied v.own, length-append w.copied w.own)
 
 -- any number of steps that entered nothing and gave no number: the pass knows no less than before, and has the same share
@@ -35,11 +35,11 @@ pub stays_none : (v : View) → Stays v v
 stays_none v = record { seen = begins_same (history_of v.log); listed = le_refl (enlisted_by v.log); share = refl; mine = refl; number = refl }
 
 -- if a pass entered nothing and got no number from v to w, nor by the one step that led it from w to u, so it is from v to u (`Stays`)
-pub stays_more : (v w u : View) (target : Target) → Stays v w → Sees target w u → Stays v u
-stays_more v w u target t sees = search (arith, begins_through)
+pub stays_more : (v w u : View) (action : Action) → Stays v w → Sees action w u → Stays v u
+stays_more v w u action t sees = search (arith, begins_through)
 
 -- `shown` works out from the steps of a pass which versions it has read
-module _ (shown : List Taken → List ℕ) where
+module _ (shown : List TakenStep → List ℕ) where
   -- after steps that entered nothing and gave no number contracts see that the pass has seen no less, and has the same share
   pub stays_on : (v w : View) → Stays v w → SeesOn (pass_view_by shown v) (pass_view_by shown w)
   stays_on v w t = record { seen = t.seen; listed = t.listed; share = t.share }
@@ -49,15 +49,15 @@ module _ (shown : List Taken → List ℕ) where
   stays_continue v w u t goes = record { sound = sound shown w u goes; on = stays_on v u t; number = t.number }
 
   -- such steps, and a last one that added an entry, leave what holds of a pass after each call
-  pub adds_continue : (v w u : View) (target : Target) (e : Entry) → Stays v w → Adds target e w u → Continues (pass_view_by shown v) (pass_view_by shown u)
-  adds_continue v w u target e t adds = search (arith, sound, begins_through)
+  pub adds_continue : (v w u : View) (action : Action) (e : Entry) → Stays v w → Adds action e w u → Continues (pass_view_by shown v) (pass_view_by shown u)
+  adds_continue v w u action e t adds = search (arith, sound, begins_through)
 
   -- if the last step gave the pass a number, it was enlisted as contracts say
   pub enlists : (v w u : View) (found : ℕ) → Stays v w → GivesNumber found w u → shown u.own ≡ [] → Enlistment (pass_view_by shown v) (pass_view_by shown u)
   enlists v w u found t gives none = search (arith, sound, begins_through)
 
   -- the pass v took in a note of the pass a, and then took a step that added no entry and gave no number
-  module _ (a v w : View) (target : Target) (sees : Sees target (told_pass v (note_pass a)) w) where
+  module _ (a v w : View) (action : Action) (sees : Sees action (told_pass v (note_pass a)) w) where
     first : IsPrefix v.log w.log
     first = All-head (λ l. IsPrefix l w.log) v.log (a.log ∷ v.told) sees.goes.heard
 
@@ -80,9 +80,9 @@ module _ (shown : List Taken → List ℕ) where
     }
 
 -- the pass that is split off a sound pass is sound
-pub sound_second : (shown : List Taken → List ℕ) (v : View) → IsSound (pass_view_by shown v) → IsSound (pass_view_by shown (second_pass v))
+pub sound_second : (shown : List TakenStep → List ℕ) (v : View) → IsSound (pass_view_by shown v) → IsSound (pass_view_by shown (second_pass v))
 sound_second shown v s = search (arith, none_by_zero, half_acts, half_not_whole)
 
 -- what is left of a sound pass after a split is sound
-pub sound_left : (shown : List Taken → List ℕ) (v : View) → IsSound (pass_view_by shown v) → IsSound (pass_view_by shown (left_pass v))
+pub sound_left : (shown : List TakenStep → List ℕ) (v : View) → IsSound (pass_view_by shown v) → IsSound (pass_view_by shown (left_pass v))
 sound_left shown v s = search (arith, half_acts, half_not_whole)

@@ -2,7 +2,7 @@
 use Rattle.ucl_live_board.proofs.Common.{◌≡◌, ◌≢◌, ◌⊎◌, inl, inr, ℕ, zero, suc, ◌+◌, ◌<◌, Bool, true, false, cond, List, ◌∷◌, ◌++◌, length, set, None, refl}
 use Rattle.ucl_live_board.proofs.Common.{sym, ap, ◌∙◌, subst, arith, [], length-append, length-set, All, All-cons, All-nil, All-append, IsSome, IsPrefix}
 use Rattle.ucl_live_board.proofs.Common.{nat_lt, ltb-true, begins_same, begins_through, some, some-injective, some-ne-none, get_elem?, at_set, set_here}
-use Rattle.ucl_live_board.proofs.Common.{may_none, Entry, Taken, Logged, logged_by, Log, taken_by, entry_list, history_of, enlists, enlisted_by}
+use Rattle.ucl_live_board.proofs.Common.{may_none, Entry, TakenStep, LoggedStep, logged_by, Log, taken_by, entry_list, history_of, enlists, enlisted_by}
 use Rattle.ucl_live_board.proofs.Common.{MayBeTaken, View, Share, Overlap, new_pass, first_pass, left_pass, second_pass, note_pass, told_pass, ViewInvariant}
 use Rattle.ucl_live_board.proofs.Common.{BoardInvariant, BoardStep, stepped_to}
 use Rattle.atomic_table.proofs.Lists as lists
@@ -74,7 +74,7 @@ module _ (views : List View) (seat : ℕ) (v : View) (here : get_elem? views sea
       (apart_set views seat (left_pass v) (lone_by (left_pass v) (half_overlaps false v.share)) apart)
 
 -- a view that fits a log fits it after a step of another seat
-fits_more : (log : Log) (x : Logged) (seat : ℕ) (v : View) → x.seat ≢ seat → ViewInvariant log seat v → ViewInvariant (log ++ x ∷ []) seat v
+fits_more : (log : Log) (x : LoggedStep) (seat : ℕ) (v : View) → x.seat ≢ seat → ViewInvariant log seat v → ViewInvariant (log ++ x ∷ []) seat v
 fits_more log x seat v not f = record {
   knows = begins_through v.log log (log ++ x ∷ []) f.knows (x ∷ [], refl);
   told = λ k d l. begins_through _ log (log ++ x ∷ []) (f.told k d l) (x ∷ [], refl);
@@ -83,9 +83,9 @@ fits_more log x seat v not f = record {
 }
 
 -- the view after a step fits the log with that step
-fits_stepped : (log : Log) (seat : ℕ) (x : Taken) (v : View) → v.share ≢ None → ViewInvariant log seat v → ViewInvariant (log ++ logged_by seat x ∷ []) seat (stepped_to log seat x v)
+fits_stepped : (log : Log) (seat : ℕ) (x : TakenStep) (v : View) → v.share ≢ None → ViewInvariant log seat v → ViewInvariant (log ++ logged_by seat x ∷ []) seat (stepped_to log seat x v)
 fits_stepped log seat x v acts f =
-    let own : v.own ++ x ∷ [] ≡ taken_by seat (log ++ logged_by seat x ∷ []) = ap (λ (l : List Taken). l ++ x ∷ []) f.own.1 ∙ sym (taken_own seat log x) in
+    let own : v.own ++ x ∷ [] ≡ taken_by seat (log ++ logged_by seat x ∷ []) = ap (λ (l : List TakenStep). l ++ x ∷ []) f.own.1 ∙ sym (taken_own seat log x) in
     record {
       knows = begins_same (log ++ logged_by seat x ∷ []);
       told = All-nil (λ (l : Log). IsPrefix l (log ++ logged_by seat x ∷ []));
@@ -94,7 +94,7 @@ fits_stepped log seat x v acts f =
     }
 
 -- the view of one pass more, which took no step and knows the log that a fitting view knows, fits at the next seat
-fits_last : (log : Log) (n : ℕ) (v w : View) (seat : ℕ) → All (λ (x : Logged). x.seat < n) log → ViewInvariant log seat v → w.log ≡ v.log → w.told ≡ [] → w.own ≡ []
+fits_last : (log : Log) (n : ℕ) (v w : View) (seat : ℕ) → All (λ (x : LoggedStep). x.seat < n) log → ViewInvariant log seat v → w.log ≡ v.log → w.told ≡ [] → w.own ≡ []
     → ViewInvariant log n w
 fits_last log n v w seat all f same told own =
     let knows : IsPrefix w.log log = subst (λ (l : Log). IsPrefix l log) (sym same) f.knows in
@@ -140,10 +140,10 @@ fits_told log seat v note f theirs = record {
 fits_spent : (log : Log) (seat : ℕ) → taken_by seat log ≡ [] → ViewInvariant log seat new_pass
 fits_spent log seat none = record { knows = (log, refl); told = All-nil (λ (l : Log). IsPrefix l log); own = (refl, sym none); idle = λ _. refl }
 
-module _ (words_after : List Entry → ℕ → List ℕ) (May : Log → Logged → Type 0) where
+module _ (words_after : List Entry → ℕ → List ℕ) (May : Log → LoggedStep → Type 0) where
   module _ (words : List ℕ) (views : List View) (r : BoardInvariant words_after May words views) (seat : ℕ) (v : View) (here : get_elem? views seat ≡ some v) where
     -- a step that may come next, of a pass with a share, keeps the invariant if the words are then those after the log with it
-    pub step_keeps : (after : List ℕ) (x : Taken) → IsSome v.share → MayBeTaken r.log (logged_by seat x) → May r.log (logged_by seat x)
+    pub step_keeps : (after : List ℕ) (x : TakenStep) → IsSome v.share → MayBeTaken r.log (logged_by seat x) → May r.log (logged_by seat x)
         → after ≡ words_after (history_of (r.log ++ logged_by seat x ∷ [])) (enlisted_by (r.log ++ logged_by seat x ∷ []))
         → BoardInvariant words_after May after (set views seat (stepped_to r.log seat x v))
     step_keeps after x acts may next are =
@@ -156,8 +156,8 @@ module _ (words_after : List Entry → ℕ → List ℕ) (May : Log → Logged �
           follows = may_next May r.log (logged_by seat x) r.follows next;
           words_are = are;
           seated = below_more (length views) (length (set views seat w)) (r.log ++ logged_by seat x ∷ []) (omega arith)
-              (All-append (λ (y : Logged). y.seat < length views) r.log (logged_by seat x ∷ []) r.seated
-              (All-cons (λ (y : Logged). y.seat < length views) (logged_by seat x) [] below (All-nil (λ (y : Logged). y.seat < length views))));
+              (All-append (λ (y : LoggedStep). y.seat < length views) r.log (logged_by seat x ∷ []) r.seated
+              (All-cons (λ (y : LoggedStep). y.seat < length views) (logged_by seat x) [] below (All-nil (λ (y : LoggedStep). y.seat < length views))));
           fits = λ j u at. elim (at_set views seat j w u at) [
             | inl t ↦ subst (λ (k : ℕ). ViewInvariant (r.log ++ logged_by seat x ∷ []) k u) (sym t.0)
                 (subst (ViewInvariant (r.log ++ logged_by seat x ∷ []) seat) t.1 (fits_stepped r.log seat x v (acts_some v.share acts) (r.fits seat v here)))
@@ -167,9 +167,9 @@ module _ (words_after : List Entry → ℕ → List ℕ) (May : Log → Logged �
         }
 
     -- the view after a step, which keeps the invariant, and what the step tells its pass
-    abbrev pub takes_step : (after : List ℕ) (x : Taken) → IsSome v.share → MayBeTaken r.log (logged_by seat x) → May r.log (logged_by seat x)
+    abbrev pub takes_step : (after : List ℕ) (x : TakenStep) → IsSome v.share → MayBeTaken r.log (logged_by seat x) → May r.log (logged_by seat x)
         → after ≡ words_after (history_of (r.log ++ logged_by seat x ∷ [])) (enlisted_by (r.log ++ logged_by seat x ∷ []))
-        → (w : View) × BoardInvariant words_after May after (set views seat w) × BoardStep words_after May seat x.target v w
+        → (w : View) × BoardInvariant words_after May after (set views seat w) × BoardStep words_after May seat x.action v w
     takes_step after x acts may next are =
         let f = r.fits seat v here in
         let w = stepped_to r.log seat x v in
@@ -194,19 +194,19 @@ module _ (words_after : List Entry → ℕ → List ℕ) (May : Log → Logged �
         )
 
     -- the words after a step: they stay, or are those of one entry or one reporter more
-    pub words_stay : (x : Taken) → x.entry ≡ None → length (enlists x.target) ≡ 0
+    pub words_stay : (x : TakenStep) → x.entry ≡ None → length (enlists x.action) ≡ 0
         → words ≡ words_after (history_of (r.log ++ logged_by seat x ∷ [])) (enlisted_by (r.log ++ logged_by seat x ∷ []))
     words_stay x none few =
         let count : enlisted_by (r.log ++ logged_by seat x ∷ []) ≡ enlisted_by r.log = let e = enlisted_more r.log (logged_by seat x) in omega arith in
         r.words_are ∙ (λ i. words_after (sym (history_same r.log (logged_by seat x) none) i) (sym count i))
 
-    pub words_entered : (x : Taken) (e : Entry) → entry_list x.entry ≡ e ∷ [] → length (enlists x.target) ≡ 0
+    pub words_entered : (x : TakenStep) (e : Entry) → entry_list x.entry ≡ e ∷ [] → length (enlists x.action) ≡ 0
         → words_after (history_of r.log ++ e ∷ []) (enlisted_by r.log) ≡ words_after (history_of (r.log ++ logged_by seat x ∷ [])) (enlisted_by (r.log ++ logged_by seat x ∷ []))
     words_entered x e is few =
         let count : enlisted_by (r.log ++ logged_by seat x ∷ []) ≡ enlisted_by r.log = let e = enlisted_more r.log (logged_by seat x) in omega arith in
         λ i. words_after (sym (history_more r.log (logged_by seat x) ∙ ap (λ (l : List Entry). history_of r.log ++ l) is) i) (sym count i)
 
-    pub words_enlisted : (x : Taken) → x.entry ≡ None → length (enlists x.target) ≡ 1
+    pub words_enlisted : (x : TakenStep) → x.entry ≡ None → length (enlists x.action) ≡ 1
         → words_after (history_of r.log) (enlisted_by r.log + 1) ≡ words_after (history_of (r.log ++ logged_by seat x ∷ [])) (enlisted_by (r.log ++ logged_by seat x ∷ []))
     words_enlisted x none one =
         let count : enlisted_by (r.log ++ logged_by seat x ∷ []) ≡ enlisted_by r.log + 1 = let e = enlisted_more r.log (logged_by seat x) in omega arith in
@@ -285,7 +285,7 @@ module _ (words_after : List Entry → ℕ → List ℕ) (May : Log → Logged �
     is_log = may_none MayBeTaken;
     follows = may_none May;
     words_are = are;
-    seated = All-nil (λ (x : Logged). x.seat < 1);
+    seated = All-nil (λ (x : LoggedStep). x.seat < 1);
     fits = fits;
     shared = λ i j v w at bt over. only i v at ∙ sym (only j w bt);
   }
@@ -300,7 +300,7 @@ module _ (words_after : List Entry → ℕ → List ℕ) (May : Log → Logged �
       only (suc i) v e = absurd (some-ne-none v (sym e))
 
 -- if a pass with a view occurs, the two passes that a split makes of it occur together
-both_there : (words_after : List Entry → ℕ → List ℕ) (May : Log → Logged → Type 0) (v : View) → BothOccur words_after May v (left_pass v) (second_pass v)
+both_there : (words_after : List Entry → ℕ → List ℕ) (May : Log → LoggedStep → Type 0) (v : View) → BothOccur words_after May v (left_pass v) (second_pass v)
 both_there words_after May v seat was =
     let left = set was.views seat (left_pass v) in
     let here = set_here was.views seat (left_pass v) (place_below was.views seat v was.here) in
@@ -316,13 +316,13 @@ both_there words_after May v seat was =
     }
 
 -- if a pass occurs, the passes that a split leaves and splits off occur together
-pub split_occurs : (words_after : List Entry → ℕ → List ℕ) (May : Log → Logged → Type 0) (v left second : View) → left ≡ left_pass v → second ≡ second_pass v
+pub split_occurs : (words_after : List Entry → ℕ → List ℕ) (May : Log → LoggedStep → Type 0) (v left second : View) → left ≡ left_pass v → second ≡ second_pass v
     → BothOccur words_after May v left second
 split_occurs words_after May v left second kept given = subst (λ (u : View). BothOccur words_after May v u second) (sym kept)
     (subst (λ (u : View). BothOccur words_after May v (left_pass v) u) (sym given) (both_there words_after May v))
 
 -- if a pass occurs, each of the two passes that a split makes of it occurs
-pub both_occur : (words_after : List Entry → ℕ → List ℕ) (May : Log → Logged → Type 0) (v left second : View) → BothOccur words_after May v left second
+pub both_occur : (words_after : List Entry → ℕ → List ℕ) (May : Log → LoggedStep → Type 0) (v left second : View) → BothOccur words_after May v left second
     → OccursSomewhere words_after May v → OccursSomewhere words_after May left × OccursSomewhere words_after May second
 both_occur words_after May v left second split was =
     let both = split was.0 was.1 in (

@@ -6,27 +6,27 @@ use Rattle.ucl_word.specs.declared.event.EventCall.{EventCall}
 use Rattle.ucl_word.specs.declared.event.Kind.TheVariants.{KickOff}
 use Rattle.ucl_word.specs.Counts.{EachMay}
 use Rattle.ucl_board.specs.declared.entry.Entry.{Entry}
-use Rattle.ucl_log.specs.Log.{Target, Taken, Logged, Log, logged_by, taken_by, IsLog, MayBeTaken}
+use Rattle.ucl_log.specs.Log.{Action, TakenStep, LoggedStep, Log, logged_by, taken_by, IsWellFormedLog, MayBeTaken}
 use Rattle.ucl_live_board.specs.declared.view.View.{View}
 use Rattle.ucl_live_board.specs.PossibleViews.{OccursIn}
 
 -- the view of a seat's pass after a step, which came after this log: the pass then knows the whole log
-abbrev pub stepped_to : Log → ℕ → Taken → View → View
+abbrev pub stepped_to : Log → ℕ → TakenStep → View → View
 stepped_to before seat step v =
     record { log = before ++ logged_by seat step ∷ []; told = []; own = v.own ++ step ∷ []; share = v.share; copied = v.copied }
 
--- the pass at a seat took one step on this target (which word, what was done and found), and its view v became w: `May` allows the step
+-- the pass at a seat took one step with this action (which word, what was done and found), and its view v became w: `May` allows the step
 -- after the log `before`, which begins with all that the pass had known or been told; the pass has a share; and some state that satisfies
 -- the invariant has w at the seat
-pub record BoardStep (words_after : List Entry → ℕ → List ℕ) (May : Log → Logged → Type 0) (seat : ℕ) (target : Target) (v w : View) : Type 0 where
+pub record BoardStep (words_after : List Entry → ℕ → List ℕ) (May : Log → LoggedStep → Type 0) (seat : ℕ) (action : Action) (v w : View) : Type 0 where
   pub before : Log
-  pub is_log : IsLog before
+  pub is_log : IsWellFormedLog before
   pub follows : EachMay May before
   pub since : IsPrefix v.log before
   pub heard : All (λ (heard : Log). IsPrefix heard before) v.told
   pub own : v.own ≡ taken_by seat before
-  pub step : Taken
-  pub of : step.target ≡ target
+  pub step : TakenStep
+  pub of : step.action ≡ action
   pub may : MayBeTaken before (logged_by seat step)
   pub next : May before (logged_by seat step)
   pub is : w ≡ stepped_to before seat step v

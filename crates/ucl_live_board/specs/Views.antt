@@ -1,12 +1,12 @@
 -- Views of passes: what a pass knows and has done.
 use Rattle.std.specs.Prelude.{◌≡◌, ℕ, List, [], ◌∷◌, ◌++◌, None, length, nat_lt, if◌then◌else◌}
-use Rattle.ucl_log.specs.Log.{Access, Taken, Log, added_by, number_of, history_of, enlisted_by, accesses_in}
+use Rattle.ucl_log.specs.Log.{Access, TakenStep, Log, added_by, number_of, history_of, enlisted_by, accesses_in}
 use Rattle.ucl_live_board.specs.declared.view.View.{View}
 use Rattle.ucl_live_board.specs.Shares.{whole, first_half, second_half}
 use Rattle.ucl_live_board.specs.Passes.{PassView}
 
 -- what contracts know of a pass with this view, on a board where `shown_by` works out the versions of a pass's readings from its steps
-abbrev pub pass_view_by : (List Taken → List ℕ) → View → PassView
+abbrev pub pass_view_by : (List TakenStep → List ℕ) → View → PassView
 pass_view_by shown_by v = record {
   seen = history_of v.log;
   mine = added_by v.own;
@@ -17,7 +17,7 @@ pass_view_by shown_by v = record {
 }
 
 -- the steps of the passes that a pass was split off from, and its own
-abbrev pub steps_of : View → List Taken
+abbrev pub steps_of : View → List TakenStep
 steps_of v = v.copied ++ v.own
 
 -- how many steps the view of a pass has: its own, and those of the passes that it was split off from
@@ -29,7 +29,7 @@ abbrev pub trail_of : View → List Access
 trail_of v = accesses_in (steps_of v)
 
 -- a pass took just these steps, from the view v to the view w
-pub record Takes (v : View) (steps : List Taken) (w : View) : Type 0 where
+pub record Takes (v : View) (steps : List TakenStep) (w : View) : Type 0 where
   pub own : w.own ≡ v.own ++ steps
   pub copied : w.copied ≡ v.copied
 

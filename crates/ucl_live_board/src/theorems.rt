@@ -8,13 +8,13 @@ ghost use Rattle.ucl_live_board.specs.BoardInvariant.{StepsComeLast, LastStepsSe
 pub trait BoardRule {
     ghost use Rattle.std.specs.Prelude.{ℕ, List};
     ghost use Rattle.ucl_board.specs.declared.entry.Entry.{Entry};
-    ghost use Rattle.ucl_log.specs.Log.{Logged, Log};
+    ghost use Rattle.ucl_log.specs.Log.{LoggedStep, Log};
 
     // What the words of the board are after a history and so many enlistments of reporters.
     ghost words_after: { List Entry → ℕ → List ℕ };
 
     // Whether this step may come after this log.
-    ghost may: { Log → Logged → Type 0 };
+    ghost may: { Log → LoggedStep → Type 0 };
 }
 
 /// States that the steps that a pass takes are the end of the log: each came after all that were there, and found the word that was there.

@@ -2,7 +2,7 @@
 
 ghost use Rattle.std.specs.Prelude.{List};
 ghost use Rattle.std.specs.Borrow.{ftrue};
-ghost use Rattle.ucl_log.specs.Log.{Taken, Log};
+ghost use Rattle.ucl_log.specs.Log.{TakenStep, Log};
 ghost use Rattle.ucl_live_board.specs.Shares.{Share};
 
 use std::marker::Model;
@@ -15,11 +15,11 @@ pub struct View {
     // After a meeting, until the pass's next step, the prefixes of the log that both passes knew.
     pub ghost told: { List Log },
     // The steps that the pass took itself, oldest first.
-    pub ghost own: { List Taken },
+    pub ghost own: { List TakenStep },
     // The pass's share: its part of the board, without which it takes no step.
     pub ghost share: { Share },
     // The steps that the passes from which it was split off had taken by then.
-    pub ghost copied: { List Taken },
+    pub ghost copied: { List TakenStep },
 }
 
 impl Model for View {

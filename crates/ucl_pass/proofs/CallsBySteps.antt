@@ -1,14 +1,14 @@
 -- From what steps on the cell tell to what a call says of its pass.
 use Rattle.ucl_pass.proofs.Common.{◌≡◌, ℕ, ◌+◌, ◌<◌, ◌≤◌, List, ◌∷◌, ◌++◌, length, take, refl, sym, ap, ◌∙◌, subst, arith, true≢false, true, false, [], le_refl}
 use Rattle.ucl_pass.proofs.Common.{Option, Some, None, slice_index, Result, Ok, Err, is_ok, IsSome, take_all, EventCall, Accepted, Refusal, Entry, AreWords}
-use Rattle.ucl_pass.proofs.Common.{version_of, board_of, IsLegal, followed_by, entry_of, reading_of, sequential_reply, Taken, Target, board_words, versions}
+use Rattle.ucl_pass.proofs.Common.{version_of, board_of, IsLegal, followed_by, entry_of, reading_of, sequential_reply, TakenStep, Action, board_words, versions}
 use Rattle.ucl_pass.proofs.Common.{begins_length, begins_through, View, IsSound, Continues, SharedReading, cell_pass_view, count_of, Takes, note_pass}
 use Rattle.ucl_pass.proofs.Common.{told_pass, words_after, IsNextBoard, CellStep, StoresReporter, LooksOnly, LooksAndShows, Exchanges, CellPass, CellReported}
 use Rattle.ucl_pass.proofs.Common.{CellRead, CellEnlisted, CellFull, CellMet, TableId, StoresEvent, takes_count, Stays, stays_none, stays_more, IsUpToDate}
 use Rattle.ucl_pass.proofs.Common.{versions_loaded, shown_after, IsLegalStep, history_of, number_of, enlisted_by}
 use Rattle.std.proofs.lemmas.List.Sums.{fold-append}
 use Rattle.ucl_log.specs.Log as logs
-use Rattle.ucl_log.specs.Log.{Enlists, Whole}
+use Rattle.ucl_log.specs.Log.{CountRaised, Whole}
 use Rattle.ucl_board.specs.declared.reading.Reading.{Reading}
 use Rattle.ucl_log.proofs.Logs.{legal_history, history_on}
 use Rattle.ucl_live_board.proofs.CallsBySteps.{adds_continue, enlists, meets, stays_continue}
@@ -23,9 +23,9 @@ use Rattle.ucl_pass.specs.CellRecords.{CellSplit, IsCellPassOf}
 use Rattle.ucl_pass.proofs.InvariantIsKept.{match_words, last_word}
 
 -- a pass took one step, from the view v to the view w: it found the words x, and left the words y
-module _ (target : Target) (entry : Option Entry) (v w : View) (x y : List ℕ) (s : CellStep target entry v x y w) where
+module _ (action : Action) (entry : Option Entry) (v w : View) (x y : List ℕ) (s : CellStep action entry v x y w) where
   pub goes : Goes v w
-  goes = facts.goes words_after IsLegalStep s.seat target v w s.steps (λ log is legal. legal)
+  goes = facts.goes words_after IsLegalStep s.seat action v w s.steps (λ log is legal. legal)
 
   pub board_seen : take 12 y ≡ board_of (history_of w.log)
   board_seen = ap (take 12) s.left ∙ match_words (history_of w.log) (enlisted_by w.log)
@@ -40,28 +40,28 @@ module _ (target : Target) (entry : Option Entry) (v w : View) (x y : List ℕ) 
     seat = s.seat;
     steps = v.own;
     last = s.steps.step;
-    log = facts.log_is words_after IsLegalStep s.seat target v w s.steps;
-    own = facts.own_is words_after IsLegalStep s.seat target v w s.steps;
+    log = facts.log_is words_after IsLegalStep s.seat action v w s.steps;
+    own = facts.own_is words_after IsLegalStep s.seat action v w s.steps;
   }
 
-  pub one_taken : (t : Taken) × Takes v (t ∷ []) w
-  one_taken = facts.one_more words_after IsLegalStep s.seat target v w s.steps
+  pub one_taken : (t : TakenStep) × Takes v (t ∷ []) w
+  one_taken = facts.one_more words_after IsLegalStep s.seat action v w s.steps
 
   pub one_act : count_of w ≡ count_of v + 1
   one_act = takes_count v w (one_taken.0 ∷ []) one_taken.1
 
   -- the versions that it has read are those before the step, and what the step made of them
-  pub shown_then : versions_loaded w.own ≡ shown_after target s.steps.step.at (versions_loaded v.own)
-  shown_then = ap versions_loaded (facts.own_is words_after IsLegalStep s.seat target v w s.steps)
-      ∙ (fold-append (λ (shown : List ℕ) (t : Taken). shown_after t.target t.at shown) [] v.own (s.steps.step ∷ [])
-      ∙ ap (λ (t : Target). shown_after t s.steps.step.at (versions_loaded v.own)) s.steps.of)
+  pub shown_then : versions_loaded w.own ≡ shown_after action s.steps.step.length (versions_loaded v.own)
+  shown_then = ap versions_loaded (facts.own_is words_after IsLegalStep s.seat action v w s.steps)
+      ∙ (fold-append (λ (shown : List ℕ) (t : TakenStep). shown_after t.action t.length shown) [] v.own (s.steps.step ∷ [])
+      ∙ ap (λ (t : Action). shown_after t s.steps.step.length (versions_loaded v.own)) s.steps.of)
 
   -- a step that added no entry and enlisted no one saw what is there after it too
-  pub sees : entry ≡ None → length (logs.enlists target) ≡ 0 → Sees target v w
-  sees none few = facts.sees words_after IsLegalStep s.seat target v w s.steps (λ log is legal. legal) (s.entry_is ∙ none) few
+  pub sees : entry ≡ None → length (logs.enlists action) ≡ 0 → Sees action v w
+  sees none few = facts.sees words_after IsLegalStep s.seat action v w s.steps (λ log is legal. legal) (s.entry_is ∙ none) few
 
-  pub now_is : entry ≡ None → s.steps.step.at ≡ length (history_of w.log)
-  now_is none = facts.at_is words_after IsLegalStep s.seat target v w s.steps (λ log is legal. legal) (s.entry_is ∙ none)
+  pub now_is : entry ≡ None → s.steps.step.length ≡ length (history_of w.log)
+  now_is none = facts.at_is words_after IsLegalStep s.seat action v w s.steps (λ log is legal. legal) (s.entry_is ∙ none)
 
 -- from v to w a pass made only loads and missed exchanges: it knows no less, has shown no further reading, and has a share
 pub record Looked (v w : View) : Type 0 where
@@ -243,14 +243,14 @@ module _ (board same : TableId) (own : same ≡ board) (v w u : View) (x : List 
       let n = slice_index x 12 in
       let stored = won StoresReporter u z x next r exchanged ok in
       let gives : GivesNumber n u z = facts.enlisted words_after IsLegalStep stored.seat n u z stored.steps (λ log is legal. legal) in
-      let acts = one_act (Enlists n) None u z x next stored in
+      let acts = one_act (CountRaised n) None u z x next stored in
       let most = was.acts in
       record {
         own = own;
-        enlisted = enlists versions_loaded v u z n was.stays gives (shown_then (Enlists n) None u z x next stored);
+        enlisted = enlists versions_loaded v u z n was.stays gives (shown_then (CountRaised n) None u z x next stored);
         steps = record { words = x; looked = u; loads = at_last HasNumberLeft v w u x tried looked; ends = (next, stored) };
         acts = omega arith;
-        up_to_date = up_to_date (Enlists n) None u z x next stored;
+        up_to_date = up_to_date (CountRaised n) None u z x next stored;
         occurs = (stored.seat, stored.steps.occurs);
       }
 

@@ -8,7 +8,7 @@ pub use Rattle.std.proofs.lemmas.List.{take_all}
 pub use Rattle.std.specs.Prelude.{Bool, Err, IsSome, None, Option, Some, MatchResult, Ok, Result, is_ok, slice_index}
 pub use Rattle.ucl_board.proofs.HistoryTheorems.{begins_length, begins_through, board_words, one_word, versions}
 pub use Rattle.ucl_board.specs.History.{IsLegal, board_of, entry_of, followed_by, reading_of, sequential_reply}
-pub use Rattle.ucl_log.specs.Log.{IsLegalStep, Taken, Target, enlisted_by, history_of, number_of, taken_by}
+pub use Rattle.ucl_log.specs.Log.{IsLegalStep, TakenStep, Action, enlisted_by, history_of, number_of, taken_by}
 pub use Rattle.ucl_board.specs.Words.{AreWords, version_of}
 pub use Rattle.ucl_board.specs.declared.entry.Entry.{Entry}
 pub use Rattle.ucl_pass.specs.CellRecords.{CellEnlisted, CellFull, CellMet, CellPass, CellRead, CellReported, cell_pass_of}

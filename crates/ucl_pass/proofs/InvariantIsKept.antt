@@ -3,11 +3,11 @@ use Rattle.ucl_pass.proofs.Common.{Err, Ok, ◌≡◌, ◌≢◌, inl, inr, ℕ,
 use Rattle.ucl_pass.proofs.Common.{None, refl, sym, ap, ◌∙◌, subst, arith, true≢false, slice_index, Result, IsSome, some, get_elem?}
 use Rattle.ucl_pass.proofs.Common.{Turns, Forks, Merges, EventCall, Entry, IsLegal, followed_by, one_word, View, new_pass, first_pass, left_pass, second_pass}
 use Rattle.ucl_pass.proofs.Common.{note_pass, told_pass, words_after, CellInvariant, IsNextBoard, with_one_more, entry_at, CellStep, LooksOnly, LooksAndShows}
-use Rattle.ucl_pass.proofs.Common.{StoresEvent, StoresReporter, MayStore, Exchanges, Taken, Target, history_of, enlisted_by, number_of, taken_by, IsLegalStep}
+use Rattle.ucl_pass.proofs.Common.{StoresEvent, StoresReporter, MayStore, Exchanges, TakenStep, Action, history_of, enlisted_by, number_of, taken_by, IsLegalStep}
 use lib.Pointwise.{pointwise, bytes_decides}
 use Rattle.ucl_word.proofs.Sequences.{may_last}
 use Rattle.ucl_board.specs.History.{board_of, MayFollow}
-use Rattle.ucl_log.specs.Log.{Enlists, Whole, step_taken, logged_by, IsThere, MayAdd, MayEnlist}
+use Rattle.ucl_log.specs.Log.{CountRaised, Whole, step_taken, logged_by, ReadsCurrent, MayAdd, MayEnlist}
 use Rattle.ucl_log.proofs.Logs.{legal_history}
 use Rattle.ucl_live_board.proofs.InvariantIsKept.{takes_step, words_stay, words_entered, words_enlisted, seconds_keep, notes_keep, joins_keep}
 use Rattle.ucl_live_board.proofs.InvariantIsKept.{opens_keep}
@@ -46,16 +46,16 @@ module _ (x : List ℕ) (views : List View) (r : CellInvariant x views) (seat : 
   number_is : number_of v.own ≡ number_of (taken_by seat r.log)
   number_is = ap number_of (r.fits seat v here).own.1
 
-  abbrev taken : Target → Option Entry → Taken
-  taken target entry = step_taken target (length r.log) (length (history_of r.log)) entry
+  abbrev taken : Action → Option Entry → TakenStep
+  taken action entry = step_taken action (length r.log) (length (history_of r.log)) entry
 
   -- a step that may come next, after which the words fit the log, keeps the invariant
-  one_step : (target : Target) (entry : Option Entry) (y : List ℕ) → IsThere r.log target → MayAdd (history_of r.log) (number_of (taken_by seat r.log)) entry
-      → MayEnlist (number_of (taken_by seat r.log)) target entry
-      → y ≡ words_after (history_of (r.log ++ logged_by seat (taken target entry) ∷ [])) (enlisted_by (r.log ++ logged_by seat (taken target entry) ∷ []))
-      → (w : View) × CellInvariant y (set views seat w) × CellStep target entry v x y w
-  one_step target entry y there adds enlists are =
-      let t = takes_step words_after IsLegalStep x views r seat v here y (taken target entry) acts (record { place = (refl, refl); there = there })
+  one_step : (action : Action) (entry : Option Entry) (y : List ℕ) → ReadsCurrent r.log action → MayAdd (history_of r.log) (number_of (taken_by seat r.log)) entry
+      → MayEnlist (number_of (taken_by seat r.log)) action entry
+      → y ≡ words_after (history_of (r.log ++ logged_by seat (taken action entry) ∷ [])) (enlisted_by (r.log ++ logged_by seat (taken action entry) ∷ []))
+      → (w : View) × CellInvariant y (set views seat w) × CellStep action entry v x y w
+  one_step action entry y there adds enlists are =
+      let t = takes_step words_after IsLegalStep x views r seat v here y (taken action entry) acts (record { index = refl; length = refl; there = there })
       (record { adds = adds; enlists = enlists }) are in
       (t.0, t.1, record { seat = seat; steps = t.2; entry_is = refl; found = r.words_are; left = are })
 
@@ -79,9 +79,9 @@ module _ (x : List ℕ) (views : List View) (r : CellInvariant x views) (seat : 
       let h = history_of r.log in
       let found : slice_index x 12 ≡ enlisted_by r.log = ap (λ (ws : List ℕ). slice_index ws 12) r.words_are ∙ last_word h (enlisted_by r.log) in
       let more : with_one_more x ≡ words_after h (enlisted_by r.log + 1) = ap with_one_more r.words_are ∙ more_words h (enlisted_by r.log) in
-      let target = Enlists (slice_index x 12) in
-      let t = one_step target None (with_one_more x) (found, room) tt (sym number_is ∙ reader, refl)
-      (more ∙ words_enlisted words_after IsLegalStep x views r seat v here (taken target None) refl refl) in
+      let action = CountRaised (slice_index x 12) in
+      let t = one_step action None (with_one_more x) (found, room) tt (sym number_is ∙ reader, refl)
+      (more ∙ words_enlisted words_after IsLegalStep x views r seat v here (taken action None) refl refl) in
       (t.0, t.1, inr (λ same. reporter_differs h (enlisted_by r.log) (sym r.words_are ∙ (same ∙ more)), t.2))
 
 -- the cell allows a pass with a share a load of all words that is no reading

@@ -4,7 +4,7 @@ use Rattle.std.specs.Prelude.{◌≡◌, ℕ, true, List, [], ◌∷◌, ◌++�
 use Rattle.std.specs.List.{fold}
 use Rattle.ucl_board.specs.declared.entry.Entry.{Entry}
 use Rattle.ucl_board.specs.History.{board_of}
-use Rattle.ucl_log.specs.Log.{Target, Enlists, Whole, Taken, Log, logged_by, IsLegalStep}
+use Rattle.ucl_log.specs.Log.{Action, CountRaised, Whole, TakenStep, Log, logged_by, IsLegalStep}
 use Rattle.ucl_live_board.specs.declared.view.View.{View}
 use Rattle.ucl_live_board.specs.BoardInvariant.{BoardInvariant}
 use Rattle.ucl_live_board.specs.PossibleViews.{OccursSomewhere}
@@ -27,16 +27,16 @@ ImpliesInvariant holds = (words : List ℕ) (views : List View) → holds words 
 abbrev pub CellOccurs : View → Type 0
 CellOccurs = OccursSomewhere words_after IsLegalStep
 
--- The versions that a pass has read after a step on this target at the length `at` of the history, if they were `shown` before: a reading
+-- The versions that a pass has read after a step with this action at this length of the history, if they were `shown` before: a reading
 -- (`Whole true`) adds the length, and an enlistment empties the list.
-abbrev pub shown_after : Target → ℕ → List ℕ → List ℕ
-shown_after (Whole true) at shown = shown ++ at ∷ []
-shown_after (Enlists found) at shown = []
-shown_after target at shown = shown
+abbrev pub shown_after : Action → ℕ → List ℕ → List ℕ
+shown_after (Whole true) length shown = shown ++ length ∷ []
+shown_after (CountRaised found) length shown = []
+shown_after action length shown = shown
 
 -- The versions that a pass with these steps has read, oldest first, since it was enlisted if it is a reporter's.
-abbrev pub versions_loaded : List Taken → List ℕ
-versions_loaded steps = fold (λ (shown : List ℕ) (step : Taken). shown_after step.target step.at shown) [] steps
+abbrev pub versions_loaded : List TakenStep → List ℕ
+versions_loaded steps = fold (λ (shown : List ℕ) (step : TakenStep). shown_after step.action step.length shown) [] steps
 
 -- What every shared board says of a pass, by its view: the events that it has seen, its own, its number, its share, its readings' versions.
 abbrev pub cell_pass_view : View → PassView
@@ -46,7 +46,7 @@ cell_pass_view pass = pass_view_by versions_loaded pass
 pub record IsUpToDate (pass : View) : Type 0 where
   pub before : Log
   pub seat : ℕ
-  pub steps : List Taken
-  pub last : Taken
+  pub steps : List TakenStep
+  pub last : TakenStep
   pub log : pass.log ≡ before ++ logged_by seat last ∷ []
   pub own : pass.own ≡ steps ++ last ∷ []

@@ -43,14 +43,14 @@ impl Outcome<[u64; 13], View> for Reads {
     ghost then = { LooksAndShows };
 }
 
-/// The compare and exchange of a report, which stores one event if it is won, and nothing otherwise.
+/// The compare-and-exchange of a report, which stores one event if it is won, and nothing otherwise.
 pub struct Adds<K>(PhantomData<K>);
 
 impl<K: Asking> Outcome<[u64; 13], View> for Adds<K> {
     ghost then = { MayStore (StoresEvent K.call) };
 }
 
-/// The compare and exchange of an enlistment, which adds one reporter, its pass, if it is won, and stores nothing otherwise.
+/// The compare-and-exchange of an enlistment, which adds one reporter, its pass, if it is won, and stores nothing otherwise.
 pub struct Enlists;
 
 impl Outcome<[u64; 13], View> for Enlists {

@@ -13,30 +13,30 @@ use Rattle.ucl_log.specs.Log.{Look, Swap}
 -- accesses that follow a history from one length of it to another: the second is no less
 pub follows_ends : (h : List Entry) (low high : ℕ) (ms : List Access) → Follows h low ms high → low ≤ high
 follows_ends h low high [] f = f
-follows_ends h low high (m ∷ ms) f = let a = f.0 in let b = follows_ends h m.at high ms f.2 in omega arith
+follows_ends h low high (m ∷ ms) f = let a = f.0 in let b = follows_ends h m.length high ms f.2 in omega arith
 
 -- accesses that follow a history up to a length that it has follow each longer history
 pub follows_longer : (h h' : List Entry) (low high : ℕ) (ms : List Access) → IsPrefix h h' → high ≤ length h → Follows h low ms high → Follows h' low ms high
 follows_longer h h' low high [] p le f = f
-follows_longer h h' low high (m ∷ ms) p le f = search (arith, follows_ends, take_beginning, follows_longer h h' m.at high ms p le f.2)
+follows_longer h h' low high (m ∷ ms) p le f = search (arith, follows_ends, take_beginning, follows_longer h h' m.length high ms p le f.2)
 
 -- accesses that follow a history between two lengths of it follow it between a lower and a higher one
 pub follows_wider : (h : List Entry) (low low' high high' : ℕ) (ms : List Access) → low' ≤ low → high ≤ high' → Follows h low ms high → Follows h low' ms high'
 follows_wider h low low' high high' [] l u f = let a : low ≤ high = f in omega arith
-follows_wider h low low' high high' (m ∷ ms) l u f = let a = f.0 in (omega arith, f.1, follows_wider h m.at m.at high high' ms (le_refl m.at) u f.2)
+follows_wider h low low' high high' (m ∷ ms) l u f = let a = f.0 in (omega arith, f.1, follows_wider h m.length m.length high high' ms (le_refl m.length) u f.2)
 
 -- accesses to a length, and then others from it, follow the history one after the other
 pub follows_append : (h : List Entry) (low middle high : ℕ) (ms ns : List Access) → Follows h low ms middle → Follows h middle ns high → Follows h low (ms ++ ns) high
 follows_append h low middle high [] ns f g = follows_wider h middle low high high ns f (le_refl high) g
-follows_append h low middle high (m ∷ ms) ns f g = (f.0, f.1, follows_append h m.at middle high ms ns f.2 g)
+follows_append h low middle high (m ∷ ms) ns f g = (f.0, f.1, follows_append h m.length middle high ms ns f.2 g)
 
 -- one access at the whole history, which found the word of its match there, follows the history up to its end
-pub follows_one : (h : List Entry) (low : ℕ) (m : Access) → low ≤ length h → m.at ≡ length h → m.found ≡ word_of (match_after h m.game) → Follows h low (m ∷ []) (length h)
+pub follows_one : (h : List Entry) (low : ℕ) (m : Access) → low ≤ length h → m.length ≡ length h → m.found ≡ word_of (match_after h m.game) → Follows h low (m ∷ []) (length h)
 follows_one h low m le at is = (omega arith, is ∙ ap (λ (z : List Entry). word_of (match_after z m.game)) (sym (take-length h) ∙ ap (λ (z : ℕ). take z h) (sym at)), omega arith)
 
 -- each access of those that follow a history lies between their two lengths of it, and found the word that was there
-pub follows_at : (h : List Entry) (low high : ℕ) (ms : List Access) (k : ℕ) (m : Access) → Follows h low ms high → slice_get ms k ≡ Some m → (low ≤ m.at) × (m.at ≤ high) × IsFoundIn h m
-follows_at h low high (n ∷ ms) (suc k) m f e = let t = follows_at h n.at high ms k m f.2 e in let a = f.0 in let b = t.0 in (omega arith, t.1, t.2)
+pub follows_at : (h : List Entry) (low high : ℕ) (ms : List Access) (k : ℕ) (m : Access) → Follows h low ms high → slice_get ms k ≡ Some m → (low ≤ m.length) × (m.length ≤ high) × IsFoundIn h m
+follows_at h low high (n ∷ ms) (suc k) m f e = let t = follows_at h n.length high ms k m f.2 e in let a = f.0 in let b = t.0 in (omega arith, t.1, t.2)
 follows_at h low high ms k m f e = search (arith, none-some, same_Some, follows_ends)
 
 -- accesses in two parts, `ms` and then `ns`, follow a history part by part: `ms` up to the length `middle`, at which its last access was
@@ -45,11 +45,11 @@ pub record Parts (h : List Entry) (low high : ℕ) (ms ns : List Access) : Type 
   pub middle : ℕ
   pub former : Follows h low ms middle
   pub latter : Follows h middle ns high
-  pub ends : (k : ℕ) (m : Access) → slice_get ms k ≡ Some m → k + 1 ≡ length ms → m.at ≡ middle
+  pub ends : (k : ℕ) (m : Access) → slice_get ms k ≡ Some m → k + 1 ≡ length ms → m.length ≡ middle
 
 -- accesses of two parts follow the history part by part
 pub follows_parts : (h : List Entry) (low high : ℕ) (ms ns : List Access) → Follows h low (ms ++ ns) high → Parts h low high ms ns
-follows_parts h low high (m ∷ n ∷ ms) ns f = search (arith, follows_parts h m.at high (n ∷ ms) ns f.2)
+follows_parts h low high (m ∷ n ∷ ms) ns f = search (arith, follows_parts h m.length high (n ∷ ms) ns f.2)
 follows_parts h low high ms ns f = search (arith, le_refl, none-some, same_Some)
 
 -- no accesses are the beginning of each collect
@@ -68,7 +68,7 @@ collect_set kind words ms i n le c k m e = let t = c k m e in let l = at_below m
 -- in an unclean try the last Second, which found another word, comes when the history is longer than at the First of the same match
 overtaken : (h : List Entry) (low high : ℕ) (ms : List Access) → Follows h low ms high → (try : IsUnclean ms) (first : Access)
     → slice_get try.firsts (length try.broken.equal) ≡ Some first
-    → (low ≤ first.at) × (first.at < try.broken.last.at) × (try.broken.last.at ≤ high)
+    → (low ≤ first.length) × (first.length < try.broken.last.length) × (try.broken.last.length ≤ high)
 overtaken h low high ms f try first at =
     let parts = follows_parts h low high try.firsts try.seconds (subst (λ (z : List Access). Follows h low z high) try.accesses f) in
     let k = length try.broken.equal in
@@ -119,9 +119,9 @@ clean_shows h low high reading ms legal f clean =
     let y = follows_at h parts.middle high clean.seconds k b.0 parts.latter b.1 in
     let c = clean.collected k a.0 a.1 in
     let d = clean.again k b.0 b.1 in
-    squeezed (k + 1) (get_or reading.board k 0) h a.0.at parts.middle b.0.at legal x.1 y.0
-    (sym c.1 ∙ (x.2 ∙ ap (λ (z : ℕ). word_of (match_after (take a.0.at h) z)) c.0.1))
-    (sym d.1 ∙ (y.2 ∙ ap (λ (z : ℕ). word_of (match_after (take b.0.at h) z)) d.0.1)) in
+    squeezed (k + 1) (get_or reading.board k 0) h a.0.length parts.middle b.0.length legal x.1 y.0
+    (sym c.1 ∙ (x.2 ∙ ap (λ (z : ℕ). word_of (match_after (take a.0.length h) z)) c.0.1))
+    (sym d.1 ∙ (y.2 ∙ ap (λ (z : ℕ). word_of (match_after (take b.0.length h) z)) d.0.1)) in
     let low_ok = follows_ends h low parts.middle clean.firsts parts.former in
     let high_ok = follows_ends h parts.middle high clean.seconds parts.latter in
     search (arith, board_from, length-append, parts.middle, reading.board, clean.twelve.0, clean.accesses, clean.firsts, clean.seconds)
@@ -143,27 +143,27 @@ pub none_of_ok : (n : ℕ) (o : Option Refusal) → IsOk (answer n o) → o ≡ 
 none_of_ok n o is = search (arith, false≢true)
 
 -- the word that an access found, after entries of a legal history, holds the record that its match had then
-pub found_record : (h : List Entry) (m : Access) (game : ℕ) → IsLegal h → IsFoundIn h m → m.game ≡ game → record_at m.found ≡ match_after (take m.at h) game
-found_record h m game legal found is = ap record_at (found ∙ ap (λ (z : ℕ). word_of (match_after (take m.at h) z)) is) ∙ read_back (take m.at h) game (legal_take h m.at legal)
+pub found_record : (h : List Entry) (m : Access) (game : ℕ) → IsLegal h → IsFoundIn h m → m.game ≡ game → record_at m.found ≡ match_after (take m.length h) game
+found_record h m game legal found is = ap record_at (found ∙ ap (λ (z : ℕ). word_of (match_after (take m.length h) z)) is) ∙ read_back (take m.length h) game (legal_take h m.length legal)
 
 -- if the accesses of a report follow a legal history, its reply is that of the board of one thread after the entries before its last access
 pub report_whole : ReportsAreSequential
 report_whole h low high now call (Ok reply) ms legal f won =
-    let swapped : Access = access Swap call.game won.looked won.places.1 won.before in
-    let t : Follows h low (access (Look call) call.game won.looked won.places.0 won.at ∷ swapped ∷ []) high = subst (λ (z : List Access). Follows h low z high) won.accesses f in
+    let swapped : Access = access Swap call.game won.looked won.indices.1 won.before in
+    let t : Follows h low (access (Look call) call.game won.looked won.indices.0 won.length ∷ swapped ∷ []) high = subst (λ (z : List Access). Follows h low z high) won.accesses f in
     let place : now - 1 ≡ won.before = omega arith in
     search (arith, found_record h swapped call.game legal t.2.1 refl)
 report_whole h low high now call (Err refusal) ms legal f (inl refused) =
-    let looked : Access = access (Look call) call.game refused.looked refused.place now in
+    let looked : Access = access (Look call) call.game refused.looked refused.index now in
     let t : Follows h low (looked ∷ []) high = subst (λ (z : List Access). Follows h low z high) refused.accesses f in
     ap (λ (z : MatchRecord). reply_of z call) (sym (found_record h looked call.game legal t.1 refl)) ∙ refused.answer
 report_whole h low high now call (Err refusal) ms legal f (inr missed) =
-    let a : Access = access (Look call) call.game missed.looked missed.missed.places.0 missed.missed.at in
-    let b : Access = access Swap call.game missed.found missed.missed.places.1 now in
+    let a : Access = access (Look call) call.game missed.looked missed.missed.indices.0 missed.missed.length in
+    let b : Access = access Swap call.game missed.found missed.missed.indices.1 now in
     let t : Follows h low (a ∷ b ∷ []) high = subst (λ (z : List Access). Follows h low z high) missed.missed.accesses f in
     let g = call.game in
     let old = found_record h a g legal t.1 refl in
     let new = found_record h b g legal t.2.1 refl in
-    let expected : call.expected ≡ (match_after (take a.at h) g).number = search (arith, number_expected, none_of_ok) in
-    let stale : call.expected ≡ (match_after (take now h) g).number → ⊥ = λ is. missed.other (t.2.1 ∙ (sym (same_number h a.at now g (sym expected ∙ is)).1 ∙ sym t.1)) in
+    let expected : call.expected ≡ (match_after (take a.length h) g).number = search (arith, number_expected, none_of_ok) in
+    let stale : call.expected ≡ (match_after (take now h) g).number → ⊥ = λ is. missed.other (t.2.1 ∙ (sym (same_number h a.length now g (sym expected ∙ is)).1 ∙ sym t.1)) in
     search (arith, is_stale, call.expected, call.kind, missed.answer)

@@ -173,7 +173,7 @@ made_by h c end call reply is made s = search (arith, false≢true)
 
 -- a history explains a call that has the reply of the board of one thread at its point (IsSettled), if the point is not before the call's
 -- beginning, and not after its end, and before its end if the call was accepted
-pub explained_by : (h : List Entry) (c : PointedCall) → IsSettled h c → c.first ≤ c.last → (c.begun ≤ c.point) × (c.point ≤ c.ended) × (c.ended ≤ length h)
+pub explained_by : (h : List Entry) (c : PointedCall) → IsSettled h c → c.first_index ≤ c.last_index → (c.begun ≤ c.point) × (c.point ≤ c.ended) × (c.ended ≤ length h)
     → (accepts c.reply ≡ true → c.point < c.ended) → IsExplained h c
 explained_by h c s turn within by_end = record {
   turn = turn;

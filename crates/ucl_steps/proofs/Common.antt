@@ -21,14 +21,14 @@ pub use Rattle.ucl_board.specs.Words.{AreWords, max_version, version_of, word_at
 pub use Rattle.ucl_board.specs.declared.entry.Entry.{Entry}
 pub use Rattle.ucl_steps.specs.Theorems.{ReadingsAreSnapshots, ReportsAreSequential, RunsAreLinearizable, UncleanTriesAreFew}
 pub use Rattle.ucl_steps.specs.Theorems.{UncleanTriesSeeMore, WordsAreOfTheHistory}
-pub use Rattle.ucl_steps.specs.ClientState.{FinishedCall}
+pub use Rattle.ucl_steps.specs.LocalState.{CompletedCall}
 pub use Rattle.ucl_steps.specs.RunHistory.{caller_number}
 pub use Rattle.ucl_steps.specs.Seen.{accepts}
 pub use Rattle.ucl_steps.specs.Machine.{Answered, Callers, CallerState, Idle, MachineState, Wanting, Within, after_begin, after_end, after_outcome}
 pub use Rattle.ucl_steps.specs.Machine.{after_reply, after_step, after_step_holding, after_steps, caller_of, change_at, held_at_begin, held_by, initial_state}
 pub use Rattle.ucl_steps.specs.Machine.{may_begin, set_held, state_after_first, stored, with_end, with_held, with_reply}
-pub use Rattle.ucl_steps.specs.Protocol.{Answers, Checking, Collecting, GoesOn, Pending, Holding, NoCall, Outcome, by_rules, compared, loaded}
-pub use Rattle.ucl_steps.specs.Protocol.{looked, swapped}
+pub use Rattle.ucl_steps.specs.Protocol.{Answers, Checking, Collecting, GoesOn, Pending, Holding, NoCall, Outcome, by_rules, second_outcome, first_outcome}
+pub use Rattle.ucl_steps.specs.Protocol.{look_outcome, swap_outcome}
 pub use Rattle.ucl_steps.specs.Running.{IsReachable, Takes, holds_of, state_of}
 pub use Rattle.ucl_steps.specs.Trails.{Does, Follows, IsClean, IsCollect, IsFoundIn, IsUnclean, accesses_of}
 pub use Rattle.ucl_steps.specs.declared.step.Call.{Call}

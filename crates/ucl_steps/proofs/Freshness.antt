@@ -5,7 +5,7 @@ use Rattle.ucl_steps.proofs.Common.{slice_get, refl, sym, ap, ◌∙◌, subst, 
 use Rattle.ucl_steps.proofs.Common.{All-cons, All-nil, may_none, may_next, begins_length, entries-append, Entry, EventCall, IsLegal, IsMatch, MayFollow}
 use Rattle.ucl_steps.proofs.Common.{attempted, board_of, entries_of, entry_of, match_after, may_attempt, sequential_reply, MatchRecord, Refusal}
 use Rattle.ucl_steps.proofs.Common.{Call, Event, Reading, Reply, Accepted, Refused, Copied, accepts}
-use Rattle.ucl_steps.proofs.Common.{FinishedCall}
+use Rattle.ucl_steps.proofs.Common.{CompletedCall}
 use Rattle.std.specs.Prelude.{Ok, Err, Result}
 use Rattle.std.proofs.lemmas.List.Elements.{All-from_recursion, All-get_or, All-weaker}
 use Rattle.ucl_word.specs.Counts.{counted_match}
@@ -17,13 +17,13 @@ use Rattle.ucl_board.specs.Words.{game_at}
 use Rattle.ucl_board.specs.declared.reading.Reading as board
 use Rattle.ucl_board.proofs.HistoryTheorems.{game_after, go_on, one_entry_more}
 use Rattle.ucl_steps.specs.BoardObject.{BoardEvent, MayInvoke, board_object, object_entries, object_reply, operation_at}
-use Rattle.ucl_steps.specs.Linearizability.{Invocation, Response, IsLinearizable, IsObjectRun, IsOperation, Linearizes, Operation, is_response, process_of}
+use Rattle.ucl_steps.specs.Linearizability.{Invocation, Response, IsLinearizable, IsLegalSequence, IsOperation, Linearizes, Operation, is_response, process_of}
 use Rattle.ucl_steps.specs.Protocol.{MayAsk, report_reply}
 use Rattle.ucl_steps.specs.Seen.{HasSeen, LinearizableCallsReadWhole, LinearizableReadsWhole, ReadsWhole, StaleAndTornAreRefused, first_event}
 use Rattle.ucl_steps.specs.Seen.{stale_reading, torn_reading}
 use Rattle.ucl_steps.proofs.EventLists.{longer}
 use Rattle.ucl_steps.proofs.Histories.{number_is}
-use Rattle.ucl_steps.proofs.ObjectRuns.{adds_at, entries_by, entries_grow, reply_at}
+use Rattle.ucl_steps.proofs.LegalSequences.{adds_at, entries_by, entries_grow, reply_at}
 
 -- an accepted event has the next event number
 next_number : (number : ℕ) (o : Option Refusal) (accepted : event.Accepted) → Accepted accepted ≡ report_reply (answer number o) → accepted.number ≡ number + 1
@@ -54,7 +54,7 @@ legal_after h number (Event e) legal may = (go_on h (attempted number e ∷ []) 
 legal_after h number Reading legal may = legal
 
 -- a run of the board of one thread, of calls that may be asked
-module _ (run : List (Operation (ℕ × Call) Reply)) (legal : IsObjectRun board_object [] run)
+module _ (run : List (Operation (ℕ × Call) Reply)) (legal : IsLegalSequence board_object [] run)
     (may : (i : ℕ) (o : Operation (ℕ × Call) Reply) → slice_get run i ≡ Some o → MayAsk o.call.0 o.call.1) where
   abbrev entries : ℕ → List Entry
   entries i = entries_by [] (take i run)
@@ -180,14 +180,14 @@ module _ (history : List BoardEvent) (invokes : All MayInvoke history) (linear :
 pub linearizable_whole : LinearizableReadsWhole
 linearizable_whole history invokes linear = reads_whole history invokes linear
 
--- among the finished calls of a log with linearizable calls no reading is stale, and none is torn
+-- among the completed calls of a log with linearizable calls no reading is stale, and none is torn
 pub calls_whole : LinearizableCallsReadWhole
 calls_whole log l =
     let reads = linearizable_whole l.history l.asked l.linearizable.linearizable in
-    let operation = λ (seat : ℕ) (c : FinishedCall). operation_at seat c (l.invoked seat c) in
+    let operation = λ (seat : ℕ) (c : CompletedCall). operation_at seat c (l.invoked seat c) in
     record {
-      fresh = λ i j m n a b at bt turn. reads.fresh (operation i a) (operation j b) (l.finished i m a at) (l.finished j n b bt) ((l.order i j m n a b at bt).1 turn);
-      whole = λ i j h m n o a b c at bt ct turn. reads.whole (operation i a) (operation j b) (operation h c) (l.finished i m a at) (l.finished j n b bt) (l.finished h o c ct)
+      fresh = λ i j m n a b at bt turn. reads.fresh (operation i a) (operation j b) (l.completed i m a at) (l.completed j n b bt) ((l.order i j m n a b at bt).1 turn);
+      whole = λ i j h m n o a b c at bt ct turn. reads.whole (operation i a) (operation j b) (operation h c) (l.completed i m a at) (l.completed j n b bt) (l.completed h o c ct)
           ((l.order i j m n a b at bt).1 turn);
     }
 

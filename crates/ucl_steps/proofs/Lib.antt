@@ -5,7 +5,7 @@ pub mod Calls
 pub mod Runs
 pub mod Accesses
 pub mod Reachable
-pub mod Clients
+pub mod LocalStates
 pub mod LogFacts
 pub mod LogRuns
 pub mod LogHistory
@@ -14,7 +14,7 @@ pub mod EventLists
 pub mod CallEvents
 pub mod CallHistories
 pub mod Placed
-pub mod ObjectRuns
+pub mod LegalSequences
 pub mod BoardObject
 pub mod RunEvents
 pub mod RunLinear

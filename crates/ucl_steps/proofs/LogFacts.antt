@@ -3,15 +3,15 @@
 use Rattle.ucl_steps.proofs.Common.{◌≡◌, ◌≤◌, ◌==◌, ◌+◌, ◌++◌, ◌∷◌, ◌∙◌, [], ap, arith, cond, eqb-true, length, le_refl, refl, slice_index, subst, sym, ℕ, Bool, true, false}
 use Rattle.ucl_steps.proofs.Common.{Option, Some, None, All, All-append, All-cons, All-nil, may_none, may_next, EventCall, Refusal, IsMatch, IsReporter}
 use Rattle.ucl_steps.proofs.Common.{IsLegal, after, attempted, entry_of, match_after, may_attempt, record_at, refusal_of, word_of, MatchRecord}
-use Rattle.ucl_steps.proofs.Common.{FinishedCall, Outcome, GoesOn, Answers, Pending, Holding, Collecting, Checking, Copied, by_rules, reading_of}
+use Rattle.ucl_steps.proofs.Common.{CompletedCall, Outcome, GoesOn, Answers, Pending, Holding, Collecting, Checking, Copied, by_rules, reading_of}
 use Rattle.ucl_steps.proofs.Histories.{read_back}
 use Rattle.ucl_word.proofs.Sequences.{may_induction, may_begin, may_last}
-use Rattle.ucl_log.specs.Log.{AccessKind, Look, Swap, First, Second, Enlisted, Enlists, Whole, IsLog, Log, Logged, Match, MayBeTaken, Taken, Target, IsThere, MayAdd}
+use Rattle.ucl_log.specs.Log.{AccessKind, Look, Swap, First, Second, CountRead, CountRaised, Whole, IsWellFormedLog, Log, LoggedStep, Match, MayBeTaken, TakenStep, Action, ReadsCurrent, MayAdd}
 use Rattle.ucl_log.specs.Log.{IsLegalStep, HasLegalSteps, IsLegalRule, LogFacts, history_of, number_of, taken_by}
 use Rattle.ucl_log.proofs.Logs.{log_facts, legal_history}
-use Rattle.ucl_steps.proofs.Clients.{by_seat, client_number, count_none, enlist_none, first_none, look_none, may_enlist, second_none}
-use Rattle.ucl_steps.specs.ClientState.{ClientState, FollowsProtocol, IsNextFor, IsNextOfProtocol, call_answered, client_at, entry_by, next_game}
-use Rattle.ucl_steps.specs.ClientState.{outcome, with_outcome, with_step, with_target}
+use Rattle.ucl_steps.proofs.LocalStates.{by_seat, local_number, count_none, enlist_none, first_none, look_none, may_enlist, second_none}
+use Rattle.ucl_steps.specs.LocalState.{LocalState, FollowsProtocol, IsNextFor, IsNextOfProtocol, call_answered, local_at, entry_by, next_match}
+use Rattle.ucl_steps.specs.LocalState.{outcome, with_outcome, with_step, with_action}
 
 -- a reporter with this number may offer event e to a match: the rules accept e on the word `old`, which it found, and make `new` of that
 pub record Offers (number : ℕ) (e : EventCall) (old new : ℕ) : Type 0 where
@@ -28,12 +28,12 @@ Sees number held = Unit {0}
 -- the steps of a log are legal, and if a pass holds an event, the rules accept it on the word that the pass found
 pub record IsSound (log : Log) : Type 0 where
   pub steps : HasLegalSteps log
-  pub sees : (seat : ℕ) → Sees (client_at seat log).number (client_at seat log).held
+  pub sees : (seat : ℕ) → Sees (local_at seat log).number (local_at seat log).held
 
 -- if a Swap finds the word that is there, and the rules accept the pass's event on the word that it loaded, the entry that the Swap adds,
 -- if any, may come next in the history
 swap_adds : (log : Log) (number : ℕ) (h : Pending) (game found : ℕ) → IsLegal (history_of log) → Sees number h
-    → found ≡ word_of (match_after (history_of log) game) → game ≡ next_game Swap h → MayAdd (history_of log) number (entry_by number h (Match Swap game found))
+    → found ≡ word_of (match_after (history_of log) game) → game ≡ next_match Swap h → MayAdd (history_of log) number (entry_by number h (Match Swap game found))
 swap_adds log number (Holding e old new) game found legal o there next = by (found == old) refl
   where
     by : (b : Bool) → (found == old) ≡ b → MayAdd (history_of log) number (cond b (Some (entry_of number e)) None)
@@ -46,7 +46,7 @@ swap_adds log number (Holding e old new) game found legal o there next = by (fou
 swap_adds log number h game found legal sees there next = search arith
 
 -- the entry of each step that the protocol lets come next may come next in the history
-may_add : (log : Log) (d : ClientState) (t : Target) → IsLegal (history_of log) → Sees d.number d.held → IsThere log t → IsNextFor d t
+may_add : (log : Log) (d : LocalState) (t : Action) → IsLegal (history_of log) → Sees d.number d.held → ReadsCurrent log t → IsNextFor d t
     → MayAdd (history_of log) d.number (entry_by d.number d.held t)
 may_add log d (Match Swap game found) legal sees there next = swap_adds log d.number d.held game found legal sees there.1 next
 may_add log d t legal sees there next = search (arith, look_none, first_none, second_none, count_none, enlist_none)
@@ -56,13 +56,13 @@ abbrev SeesBy : ℕ → Outcome → Type 0
 SeesBy number (GoesOn held) = Sees number held
 SeesBy number (Answers reply) = Unit {0}
 
--- if a step on this target is a Look, the load of a report, its pass is a reporter's, and the event is of one of the twelve matches
-abbrev IsAsked : ℕ → Target → Type 0
+-- if a step with this action is a Look, the load of a report, its pass is a reporter's, and the event is of one of the twelve matches
+abbrev IsAsked : ℕ → Action → Type 0
 IsAsked number (Match (Look e) game found) = IsReporter number × IsMatch e.game
-IsAsked number target = Unit {0}
+IsAsked number action = Unit {0}
 
 -- if the rules accept the event that a pass holds on the word that it found, they do so too with the event that it holds after a step
-sees_by : (number : ℕ) (h : Pending) (t : Target) (now : ℕ) → Sees number h → IsAsked number t → SeesBy number (outcome number h t now)
+sees_by : (number : ℕ) (h : Pending) (t : Action) (now : ℕ) → Sees number h → IsAsked number t → SeesBy number (outcome number h t now)
 sees_by number h (Match (Look e) game found) now sees asked = by (refusal_of (record_at found) e.expected e.kind) refl
   where
     by : (o : Option Refusal) → refusal_of (record_at found) e.expected e.kind ≡ o → SeesBy number (by_rules number e found o)
@@ -79,38 +79,38 @@ sees_by number (Checking words checked point) (Match Second game found) now sees
 sees_by number h t now sees asked = search arith
 
 -- if the rules accept the event that is held by an outcome on the word found, they do so too with the event in the pass's state after it
-sees_then : (o : Outcome) (y : Taken) (d : ClientState) → SeesBy d.number o → Sees (with_outcome o y d).number (with_outcome o y d).held
+sees_then : (o : Outcome) (y : TakenStep) (d : LocalState) → SeesBy d.number o → Sees (with_outcome o y d).number (with_outcome o y d).held
 sees_then o y d sees = search arith
 
 -- a Look that finds what is there, and that the protocol lets come next, is a reporter's, and its event is of one of the twelve matches
-is_asked : (log : Log) (d : ClientState) (kind : AccessKind) (game found : ℕ) → IsThere log (Match kind game found) → IsNextFor d (Match kind game found)
+is_asked : (log : Log) (d : LocalState) (kind : AccessKind) (game found : ℕ) → ReadsCurrent log (Match kind game found) → IsNextFor d (Match kind game found)
     → IsAsked d.number (Match kind game found)
 is_asked log d kind game found there next = search arith
 
 -- if the rules accept the event that a pass holds on the word that it found, they do so after each step that the protocol lets come next
-sees_next : (log : Log) (y : Taken) (d : ClientState) (t : Target) → Sees d.number d.held → IsThere log t → IsNextFor d t
-    → Sees (with_target t y d).number (with_target t y d).held
+sees_next : (log : Log) (y : TakenStep) (d : LocalState) (t : Action) → Sees d.number d.held → ReadsCurrent log t → IsNextFor d t
+    → Sees (with_action t y d).number (with_action t y d).held
 sees_next log y d (Match kind game found) sees there next = search (arith, sees_then, sees_by, is_asked log d kind game found there next)
 sees_next log y d t sees there next = search (arith, sees_then, sees_by)
 
 -- if the steps of a log are legal, and each held event is accepted by the rules (IsSound), this is so with one more step of the protocol
-sound_next : (log : Log) (x : Logged) → MayBeTaken log x → IsNextOfProtocol log x → IsSound log → IsSound (log ++ x ∷ [])
+sound_next : (log : Log) (x : LoggedStep) → MayBeTaken log x → IsNextOfProtocol log x → IsSound log → IsSound (log ++ x ∷ [])
 sound_next log x may next was =
-    let d = client_at x.seat log in
+    let d = local_at x.seat log in
     let given = number_of (taken_by x.seat log) in
-    let number = client_number (taken_by x.seat log) in
-    let entry = may_add log d x.step.target (legal_history log was.steps) (was.sees x.seat) may.there next.next in
+    let number = local_number (taken_by x.seat log) in
+    let entry = may_add log d x.step.action (legal_history log was.steps) (was.sees x.seat) may.there next.next in
     record {
       steps = may_next IsLegalStep log x was.steps (record {
         adds = subst (λ (n : ℕ). MayAdd (history_of log) n x.step.entry) number (subst (MayAdd (history_of log) d.number) (sym next.entry) entry);
-        enlists = may_enlist d given x.step.target x.step.entry number next.next next.entry;
+        enlists = may_enlist d given x.step.action x.step.entry number next.next next.entry;
       });
       sees = by_seat log x (λ seat y. Sees y.number y.held) (with_step d x.step) refl
-          (sees_next log x.step d x.step.target (was.sees x.seat) may.there next.next) (λ seat not. was.sees seat);
+          (sees_next log x.step d x.step.action (was.sees x.seat) may.there next.next) (λ seat not. was.sees seat);
     }
 
 -- in each log that follows the protocol the steps are legal, and the rules accept each event that a pass holds on the word that it found
-pub logs_sound : (log : Log) → IsLog log → FollowsProtocol log → IsSound log
+pub logs_sound : (log : Log) → IsWellFormedLog log → FollowsProtocol log → IsSound log
 logs_sound log = may_induction MayBeTaken (λ l. FollowsProtocol l → IsSound l)
     (λ f. record { steps = may_none IsLegalStep; sees = λ seat. tt })
     (λ xs x before may was f. sound_next xs x may (may_last IsNextOfProtocol xs x f) (was (may_begin IsNextOfProtocol xs (x ∷ []) f)))
@@ -122,41 +122,41 @@ pub legal_steps : IsLegalRule IsNextOfProtocol
 legal_steps log is follows = (logs_sound log is follows).steps
 
 -- a log that follows the protocol has a legal history
-pub logs_legal : (log : Log) → IsLog log → FollowsProtocol log → IsLegal (history_of log)
+pub logs_legal : (log : Log) → IsWellFormedLog log → FollowsProtocol log → IsLegal (history_of log)
 logs_legal log is follows = legal_history log (legal_steps log is follows)
 
 -- a log that follows the protocol gives its reporters the numbers from 1 to how many they are, at most 255, each to one pass; and the
 -- entries with a number are those that its pass added
-pub logs_facts : (log : Log) → IsLog log → FollowsProtocol log → LogFacts log
+pub logs_facts : (log : Log) → IsWellFormedLog log → FollowsProtocol log → LogFacts log
 logs_facts log is follows = log_facts log is (legal_steps log is follows)
 
 -- the calls of a pass have no greater number than it has
-abbrev LowCalls : ClientState → Type 0
-LowCalls d = All (λ (c : FinishedCall). c.number ≤ d.number) d.calls
+abbrev LowCalls : LocalState → Type 0
+LowCalls d = All (λ (c : CompletedCall). c.number ≤ d.number) d.calls
 
--- no finished call of a pass has a greater number than the pass after an outcome, if none had before it
-low_outcome : (o : Outcome) (y : Taken) (d : ClientState) → LowCalls d → LowCalls (with_outcome o y d)
+-- no completed call of a pass has a greater number than the pass after an outcome, if none had before it
+low_outcome : (o : Outcome) (y : TakenStep) (d : LocalState) → LowCalls d → LowCalls (with_outcome o y d)
 low_outcome (GoesOn held) y d low = low
 low_outcome (Answers reply) y d low =
     let c = call_answered reply y d in
-    All-append (λ (a : FinishedCall). a.number ≤ d.number) d.calls (c ∷ []) low
-    (All-cons (λ (a : FinishedCall). a.number ≤ d.number) c [] (le_refl d.number) (All-nil (λ (a : FinishedCall). a.number ≤ d.number)))
+    All-append (λ (a : CompletedCall). a.number ≤ d.number) d.calls (c ∷ []) low
+    (All-cons (λ (a : CompletedCall). a.number ≤ d.number) c [] (le_refl d.number) (All-nil (λ (a : CompletedCall). a.number ≤ d.number)))
 
--- no finished call of a pass has a greater number than the pass after a step of the protocol, if none had before it
-low_step : (t : Target) (y : Taken) (d : ClientState) → IsNextFor d t → LowCalls d → LowCalls (with_target t y d)
-low_step (Enlists found) y d next low = λ k c at. let was = low k c at in let none = next.1 in omega arith
-low_step (Match kind game found) y d next low = low_outcome (outcome d.number d.held (Match kind game found) y.at) y d low
+-- no completed call of a pass has a greater number than the pass after a step of the protocol, if none had before it
+low_step : (t : Action) (y : TakenStep) (d : LocalState) → IsNextFor d t → LowCalls d → LowCalls (with_action t y d)
+low_step (CountRaised found) y d next low = λ k c at. let was = low k c at in let none = next.1 in omega arith
+low_step (Match kind game found) y d next low = low_outcome (outcome d.number d.held (Match kind game found) y.length) y d low
 low_step (Whole shown) y d next low = absurd next
-low_step (Enlisted found) y d next low = low_outcome (outcome d.number d.held (Enlisted found) y.at) y d low
+low_step (CountRead found) y d next low = low_outcome (outcome d.number d.held (CountRead found) y.length) y d low
 
--- the finished calls of each pass of a log have no greater number than it has
-pub calls_low : (log : Log) → IsLog log → FollowsProtocol log → (seat : ℕ) → LowCalls (client_at seat log)
-calls_low log = may_induction MayBeTaken (λ l. FollowsProtocol l → (seat : ℕ) → LowCalls (client_at seat l))
-    (λ f seat. All-nil (λ (c : FinishedCall). c.number ≤ 0))
+-- the completed calls of each pass of a log have no greater number than it has
+pub calls_low : (log : Log) → IsWellFormedLog log → FollowsProtocol log → (seat : ℕ) → LowCalls (local_at seat log)
+calls_low log = may_induction MayBeTaken (λ l. FollowsProtocol l → (seat : ℕ) → LowCalls (local_at seat l))
+    (λ f seat. All-nil (λ (c : CompletedCall). c.number ≤ 0))
     (λ xs x before may was f.
     let p = may_last IsNextOfProtocol xs x f in
     let old = was (may_begin IsNextOfProtocol xs (x ∷ []) f) in
-    by_seat xs x (λ seat d. LowCalls d) (with_step (client_at x.seat xs) x.step) refl
-    (low_step x.step.target x.step (client_at x.seat xs) p.next (old x.seat))
+    by_seat xs x (λ seat d. LowCalls d) (with_step (local_at x.seat xs) x.step) refl
+    (low_step x.step.action x.step (local_at x.seat xs) p.next (old x.seat))
     (λ seat not. old seat))
     log

@@ -5,8 +5,8 @@ use Rattle.ucl_steps.proofs.Common.{append-nil, append_assoc, le-leb, same_Some,
 use Rattle.ucl_steps.proofs.Common.{EventCall, IsMatch, IsReporter, word_of, word_at, match_after, board_of, word_after, entry_of, Caller, Reporter, Reader}
 use Rattle.ucl_steps.proofs.Common.{Call, Event, Reading, Step, Reply, CallerState, Idle, Wanting, Within, Answered, MachineState, initial_state, held_by}
 use Rattle.ucl_steps.proofs.Common.{with_held, held_at_begin, after_begin, after_reply, after_end, after_outcome, stored, after_step_holding, after_step}
-use Rattle.ucl_steps.proofs.Common.{after_steps, Pending, NoCall, Holding, Collecting, Checking, Outcome, GoesOn, Answers, looked, swapped, loaded, compared}
-use Rattle.ucl_steps.proofs.Common.{FinishedCall, replicate, at_end, at_either, none-some}
+use Rattle.ucl_steps.proofs.Common.{after_steps, Pending, NoCall, Holding, Collecting, Checking, Outcome, GoesOn, Answers, look_outcome, swap_outcome, first_outcome, second_outcome}
+use Rattle.ucl_steps.proofs.Common.{CompletedCall, replicate, at_end, at_either, none-some}
 use Rattle.ucl_steps.proofs.Common.{All-nil, All-cons, CallRecord, with_reply, with_end, begins_length}
 use Rattle.std.proofs.lemmas.Bool.{and_from}
 use Rattle.ucl_word.proofs.Sequences.{may_induction, may_begin, may_last}
@@ -16,22 +16,22 @@ use Rattle.ucl_steps.specs.Machine.{begun_call}
 use Rattle.ucl_steps.proofs.Histories.{held_here, held_else, change_at_here}
 use Rattle.ucl_steps.proofs.Calls.{IsDecided, IsSequential, IsSettled, LiesWithin, sequential_later, decided}
 use Rattle.ucl_steps.proofs.Runs.{Keeps, kept_at_start, run_kept, same_reporter}
-use Rattle.ucl_steps.proofs.Clients.{begins, by_seat, look_none, first_none, second_none, count_none, enlist_none}
-use Rattle.ucl_steps.proofs.Clients.{numbers_low, numbers_apart, point_new, point_same}
+use Rattle.ucl_steps.proofs.LocalStates.{begins, by_seat, look_none, first_none, second_none, count_none, enlist_none}
+use Rattle.ucl_steps.proofs.LocalStates.{numbers_low, numbers_apart, point_new, point_same}
 use Rattle.ucl_steps.proofs.Points.{point_at, point_of, pointed}
 use Rattle.ucl_steps.proofs.LogFacts.{Offers, Sees, logs_facts, logs_sound}
 use Rattle.ucl_log.proofs.Logs.{history_more, history_same, enlisted_more, below_more}
-use Rattle.ucl_log.specs.Log.{AccessKind, Look, Swap, First, Second, Target, Match, Enlisted, Enlists, Taken, Logged, Log, history_of, enlists, enlisted_by}
-use Rattle.ucl_log.specs.Log.{IsThere, MayBeTaken, IsLog, Whole, LogFacts, entry_list}
-use Rattle.ucl_steps.specs.ClientState.{ClientState, client_at, outcome, with_outcome, with_step, next_game, IsNextFor, entry_by}
-use Rattle.ucl_steps.specs.ClientState.{IsNextOfProtocol, FollowsProtocol, call_asked, call_answered}
-use Rattle.ucl_steps.specs.ClientState.{IsCall}
+use Rattle.ucl_log.specs.Log.{AccessKind, Look, Swap, First, Second, Action, Match, CountRead, CountRaised, TakenStep, LoggedStep, Log, history_of, enlists, enlisted_by}
+use Rattle.ucl_log.specs.Log.{ReadsCurrent, MayBeTaken, IsWellFormedLog, Whole, LogFacts, entry_list}
+use Rattle.ucl_steps.specs.LocalState.{LocalState, local_at, outcome, with_outcome, with_step, next_match, IsNextFor, entry_by}
+use Rattle.ucl_steps.specs.LocalState.{IsNextOfProtocol, FollowsProtocol, call_asked, call_answered}
+use Rattle.ucl_steps.specs.LocalState.{IsCompleted}
 use Rattle.ucl_steps.specs.LogRuns.{caller_for, cast_for, ends_by, steps_on, steps_after, machine_steps, LongerLogsAreLongerRuns}
 use Rattle.ucl_steps.specs.LogRuns.{HoldsAs, LogsAreRuns}
 
 -- the machine's steps for x, a step that comes after this log
-abbrev own_steps : Log → Logged → List Step
-own_steps log x = let d = client_at x.seat log in steps_on (caller_for x.seat d.number) d.number d.held x.step.target x.step.at
+abbrev own_steps : Log → LoggedStep → List Step
+own_steps log x = let d = local_at x.seat log in steps_on (caller_for x.seat d.number) d.number d.held x.step.action x.step.length
 
 -- the machine's steps for two parts of a log are those for the first, and then those for the second after it
 steps_append : (before xs ys : Log) → steps_after before (xs ++ ys) ≡ steps_after before xs ++ steps_after (before ++ xs) ys
@@ -43,7 +43,7 @@ steps_append before (x ∷ xs) ys =
     ∙ ap (λ (l : Log). (own ++ steps_after (before ++ x ∷ []) xs) ++ steps_after l ys) (append_assoc before (x ∷ []) xs))
 
 -- the machine's steps for a log with one step more are those for the log, and then those for that step
-steps_more : (log : Log) (x : Logged) → machine_steps (log ++ x ∷ []) ≡ machine_steps log ++ own_steps log x
+steps_more : (log : Log) (x : LoggedStep) → machine_steps (log ++ x ∷ []) ≡ machine_steps log ++ own_steps log x
 steps_more log x = steps_append [] log (x ∷ []) ∙ ap (λ (l : List Step). machine_steps log ++ l) (append-nil (own_steps log x))
 
 -- if a log is a prefix of a later one, the machine's steps for it are a prefix of those for the later one
@@ -181,12 +181,12 @@ module _ (w : MachineState) (kept : Keeps w) (number game found at : ℕ) (is : 
       let k = length w.calls in
       let holds : held_by v.callers c ≡ Some (Wanting k e) = held_here w.callers c Idle (Wanting k e) idle in
       let word : word_at w.words e.game ≡ found = ap (word_at w.words) (sym of) ∙ word_here in
-      let one : after_step v (machine.Look c) ≡ Some (after_outcome c k at (looked number e found) v) =
+      let one : after_step v (machine.Look c) ≡ Some (after_outcome c k at (look_outcome number e found) v) =
       ap (λ (h : Option CallerState). after_step_holding (machine.Look c) h v) holds
-      ∙ (λ i. Some (after_outcome c k (sym now i) (looked number e (word i)) v)) in
-      kept_history (leaves_begun c (Event e) w (machine.Look c ∷ ends_by (looked number e found) c) at (looked number e found) w.history idle
+      ∙ (λ i. Some (after_outcome c k (sym now i) (look_outcome number e (word i)) v)) in
+      kept_history (leaves_begun c (Event e) w (machine.Look c ∷ ends_by (look_outcome number e found) c) at (look_outcome number e found) w.history idle
       (may_report number e reporter (subst IsMatch of is))
-      (leaves_by c v v (machine.Look c) k at (Wanting k e) (Event e) (looked number e found) holds refl (begun_now c (Event e) w) one))
+      (leaves_by c v v (machine.Look c) k at (Wanting k e) (Event e) (look_outcome number e found) holds refl (begun_now c (Event e) w) one))
 
   -- the exchange of a pass is that of its caller in the machine
   swap_gives : (e : EventCall) (old new k : ℕ) → game ≡ e.game → held_by w.callers (Reporter number) ≡ Some (Within k (Holding e old new))
@@ -197,42 +197,42 @@ module _ (w : MachineState) (kept : Keeps w) (number game found at : ℕ) (is : 
       word = ap (word_at w.words) (sym of) ∙ word_here
 
       step_is : (b : Bool) → (found == old) ≡ b → after_step w (machine.Swap (Reporter number)) ≡ Some
-          (after_outcome (Reporter number) k at (swapped old new found) (cond b (stored number e new w) w))
+          (after_outcome (Reporter number) k at (swap_outcome old new found) (cond b (stored number e new w) w))
       step_is b is = ap (λ (h : Option CallerState). after_step_holding (machine.Swap (Reporter number)) h w) holds
-          ∙ ((λ i. Some (after_outcome (Reporter number) k (sym now i) (swapped old new (word i)) (cond (word i == old) (stored number e new w) w)))
-          ∙ ap (λ (b : Bool). Some (after_outcome (Reporter number) k at (swapped old new found) (cond b (stored number e new w) w))) is)
+          ∙ ((λ i. Some (after_outcome (Reporter number) k (sym now i) (swap_outcome old new (word i)) (cond (word i == old) (stored number e new w) w)))
+          ∙ ap (λ (b : Bool). Some (after_outcome (Reporter number) k at (swap_outcome old new found) (cond b (stored number e new w) w))) is)
 
       known : IsCallOf w.calls k (Reporter number) (Event e)
       known = let m = kept.knows (Reporter number) (Within k (Holding e old new)) k holds refl in
           record { record_is = m.call; at = m.at; caller = m.caller; asked = m.sees.asks.call }
 
       by : (b : Bool) → (found == old) ≡ b
-          → Leaves (Reporter number) w (machine.Swap (Reporter number) ∷ ends_by (swapped old new found) (Reporter number)) (Event e) at (swapped old new found)
+          → Leaves (Reporter number) w (machine.Swap (Reporter number) ∷ ends_by (swap_outcome old new found) (Reporter number)) (Event e) at (swap_outcome old new found)
           (w.history ++ entry_list (cond b (Some (entry_of number e)) None))
       by true is = leaves_by (Reporter number) w (stored number e new w) (machine.Swap (Reporter number)) k at
-          (Within k (Holding e old new)) (Event e) (swapped old new found) holds refl known (step_is true is)
+          (Within k (Holding e old new)) (Event e) (swap_outcome old new found) holds refl known (step_is true is)
       by false is = kept_history (leaves_by (Reporter number) w w (machine.Swap (Reporter number)) k at (Within k (Holding e old new))
-          (Event e) (swapped old new found) holds refl known (step_is false is))
+          (Event e) (swap_outcome old new found) holds refl known (step_is false is))
 
   module _ (c : Caller) where
     -- the load of one word of a first collect, in a state with the same words and history
     loads : (v : MachineState) (ws : List ℕ) (k : ℕ) → v.words ≡ w.words → v.history ≡ w.history
         → held_by v.callers c ≡ Some (Within k (Collecting ws)) → IsCallOf v.calls k c Reading → game ≡ length ws + 1
-        → Leaves c v (machine.First c ∷ ends_by (loaded ws found at) c) Reading at (loaded ws found at) w.history
+        → Leaves c v (machine.First c ∷ ends_by (first_outcome ws found at) c) Reading at (first_outcome ws found at) w.history
     loads v ws k same_words same_history holds known next =
         let word : slice_index v.words (length ws) ≡ found = ap (λ (l : List ℕ). slice_index l (length ws)) same_words ∙ word_in (length ws) next in
         let place : length v.history ≡ at = ap length same_history ∙ sym now in
-        let one : after_step v (machine.First c) ≡ Some (after_outcome c k at (loaded ws found at) v) =
+        let one : after_step v (machine.First c) ≡ Some (after_outcome c k at (first_outcome ws found at) v) =
         ap (λ (h : Option CallerState). after_step_holding (machine.First c) h v) holds
-        ∙ (λ i. Some (after_outcome c k (place i) (loaded ws (word i) (place i)) v)) in
-        subst (Leaves c v (machine.First c ∷ ends_by (loaded ws found at) c) Reading at (loaded ws found at)) same_history
-        (leaves_by c v v (machine.First c) k at (Within k (Collecting ws)) Reading (loaded ws found at) holds refl known one)
+        ∙ (λ i. Some (after_outcome c k (place i) (first_outcome ws (word i) (place i)) v)) in
+        subst (Leaves c v (machine.First c ∷ ends_by (first_outcome ws found at) c) Reading at (first_outcome ws found at)) same_history
+        (leaves_by c v v (machine.First c) k at (Within k (Collecting ws)) Reading (first_outcome ws found at) holds refl known one)
 
     -- the load of one word of a first collect leads on from a caller that is idle, and from one that has loaded words
     first_begins : game ≡ 1 → held_by w.callers c ≡ Some Idle → Gives c First NoCall []
     first_begins next idle =
         let v = after_begin c Reading w in
-        kept_history (leaves_begun c Reading w (machine.First c ∷ ends_by (loaded [] found at) c) at (loaded [] found at) w.history idle (may_read c)
+        kept_history (leaves_begun c Reading w (machine.First c ∷ ends_by (first_outcome [] found at) c) at (first_outcome [] found at) w.history idle (may_read c)
         (loads v [] (length w.calls) refl refl (held_here w.callers c Idle (Within (length w.calls) (Collecting [])) idle) (begun_now c Reading w) next))
 
     first_gives : (ws : List ℕ) (k : ℕ) → game ≡ length ws + 1 → held_by w.callers c ≡ Some (Within k (Collecting ws)) → Gives c First (Collecting ws) []
@@ -245,10 +245,10 @@ module _ (w : MachineState) (kept : Keeps w) (number game found at : ℕ) (is : 
         → Gives c Second (Checking ws checked point) []
     second_gives ws checked point k next holds =
         let m = kept.knows c (Within k (Checking ws checked point)) k holds refl in
-        let one : after_step w (machine.Second c) ≡ Some (after_outcome c k point (compared ws checked point found) w) =
+        let one : after_step w (machine.Second c) ≡ Some (after_outcome c k point (second_outcome ws checked point found) w) =
         ap (λ (h : Option CallerState). after_step_holding (machine.Second c) h w) holds
-        ∙ ap (λ (n : ℕ). Some (after_outcome c k point (compared ws checked point n) w)) (word_in checked next) in
-        kept_history (leaves_by c w w (machine.Second c) k point (Within k (Checking ws checked point)) Reading (compared ws checked point found) holds refl
+        ∙ ap (λ (n : ℕ). Some (after_outcome c k point (second_outcome ws checked point n) w)) (word_in checked next) in
+        kept_history (leaves_by c w w (machine.Second c) k point (Within k (Checking ws checked point)) Reading (second_outcome ws checked point found) holds refl
         (record { record_is = m.call; at = m.at; caller = m.caller; asked = m.sees.reads.call }) one)
 
 -- what a pass holds after an outcome
@@ -257,7 +257,7 @@ held_after (GoesOn held) = held
 held_after (Answers reply) = NoCall
 
 -- after an outcome a pass has the number that it had, and holds what the outcome says
-outcome_held : (o : Outcome) (y : Taken) (d : ClientState) → ((with_outcome o y d).number ≡ d.number) × ((with_outcome o y d).held ≡ held_after o)
+outcome_held : (o : Outcome) (y : TakenStep) (d : LocalState) → ((with_outcome o y d).number ≡ d.number) × ((with_outcome o y d).held ≡ held_after o)
 outcome_held o y d = search arith
 
 -- in a run of the machine a caller that is within a call and holds h matches a pass that holds h, which is not NoCall
@@ -286,12 +286,12 @@ callers_apart i j n m not numbers e = search (arith, same_reader, same_reporter)
 not_reporter : (n seat number : ℕ) → number < n → Reporter n ≢ caller_for seat number
 not_reporter n seat number less e = search (arith, same_reporter)
 
--- a finished call ended with a step of the log, and its reply is that of the board of one thread at its point
-abbrev IsSettledIn : Log → ℕ → FinishedCall → Type 0
-IsSettledIn log seat c = (c.last < length log) × IsSettled (history_of log) (pointed log seat c)
+-- a completed call ended with a step of the log, and its reply is that of the board of one thread at its point
+abbrev IsSettledIn : Log → ℕ → CompletedCall → Type 0
+IsSettledIn log seat c = (c.last_index < length log) × IsSettled (history_of log) (pointed log seat c)
 
 -- it is so with one step more of the log
-settled_later : (log : Log) (x : Logged) (seat : ℕ) (c : FinishedCall) → IsSettledIn log seat c → IsSettledIn (log ++ x ∷ []) seat c
+settled_later : (log : Log) (x : LoggedStep) (seat : ℕ) (c : CompletedCall) → IsSettledIn log seat c → IsSettledIn (log ++ x ∷ []) seat c
 settled_later log x seat c s =
     let p = begins log x in
     let long = begins_length (history_of log) (history_of (log ++ x ∷ [])) p in
@@ -329,8 +329,8 @@ pub record Leads (readers : ℕ) (log : Log) : Type 0 where
   pub state : MachineState
   pub run : after_steps (machine_steps log) (initial_state (cast_for readers)) ≡ Some state
   pub history_is : state.history ≡ history_of log
-  pub settled : (seat k : ℕ) (c : FinishedCall) → IsCall log seat k c → IsSettledIn log seat c
-  pub each : (seat : ℕ) → seat < readers → HoldsAs (client_at seat log).held (held_by state.callers (caller_for seat (client_at seat log).number))
+  pub settled : (seat k : ℕ) (c : CompletedCall) → IsCompleted log seat k c → IsSettledIn log seat c
+  pub each : (seat : ℕ) → seat < readers → HoldsAs (local_at seat log).held (held_by state.callers (caller_for seat (local_at seat log).number))
   unnumbered : (n : ℕ) → enlisted_by log < n → n ≤ 255 → held_by state.callers (Reporter n) ≡ Some Idle
 
 -- the state of the machine that a log leads to satisfies `Keeps`, the invariant of runs
@@ -338,33 +338,33 @@ pub keeps_log : (readers : ℕ) (log : Log) (r : Leads readers log) → Keeps r.
 keeps_log readers log r = run_kept (machine_steps log) (initial_state (cast_for readers)) r.state (kept_at_start (cast_for readers)) r.run
 
 -- a log that leads to a state, and one step more of it
-module _ (readers : ℕ) (log : Log) (r : Leads readers log) (facts : LogFacts log) (x : Logged) (place_is : x.step.place ≡ length log)
-    (at_is : x.step.at ≡ length (history_of log)) where
-  abbrev d : ClientState
-  d = client_at x.seat log
+module _ (readers : ℕ) (log : Log) (r : Leads readers log) (facts : LogFacts log) (x : LoggedStep) (place_is : x.step.index ≡ length log)
+    (at_is : x.step.length ≡ length (history_of log)) where
+  abbrev d : LocalState
+  d = local_at x.seat log
 
   abbrev c : Caller
-  c = caller_for x.seat (client_at x.seat log).number
+  c = caller_for x.seat (local_at x.seat log).number
 
   abbrev log' : Log
   log' = log ++ x ∷ []
 
   -- the steps of its caller lead on with this outcome
   abbrev Comes : Outcome → Type 0
-  Comes o = Leaves c r.state (own_steps log x) (call_asked d.held x.step.target) (point_of d.held x.step.at) o (r.state.history ++ entry_list x.step.entry)
+  Comes o = Leaves c r.state (own_steps log x) (call_asked d.held x.step.action) (point_of d.held x.step.length) o (r.state.history ++ entry_list x.step.entry)
 
   run_on : (last : MachineState) → after_steps (own_steps log x) r.state ≡ Some last → after_steps (machine_steps log') (initial_state (cast_for readers)) ≡ Some last
   run_on last then = ap (λ (l : List Step). after_steps l (initial_state (cast_for readers))) (steps_more log x)
       ∙ (run_append (machine_steps log) (own_steps log x) (initial_state (cast_for readers)) r.state r.run ∙ then)
 
-  -- the finished calls of all passes, those of this one among them
-  settled_by : (d' : ClientState) → with_step d x.step ≡ d' → ((k : ℕ) (a : FinishedCall) → slice_get d'.calls k ≡ Some a → IsSettledIn log' x.seat a)
-      → (seat k : ℕ) (a : FinishedCall) → IsCall log' seat k a → IsSettledIn log' seat a
+  -- the completed calls of all passes, those of this one among them
+  settled_by : (d' : LocalState) → with_step d x.step ≡ d' → ((k : ℕ) (a : CompletedCall) → slice_get d'.calls k ≡ Some a → IsSettledIn log' x.seat a)
+      → (seat k : ℕ) (a : CompletedCall) → IsCompleted log' seat k a → IsSettledIn log' seat a
   settled_by d' is own seat k a = by_seat log x (λ seat y. slice_get y.calls k ≡ Some a → IsSettledIn log' seat a) d' is (own k a)
       (λ seat not at. settled_later log x seat a (r.settled seat k a at)) seat
 
   settled_outcome : (o : Outcome) (l : Comes o) → Keeps l.last → l.last.history ≡ history_of log'
-      → (k : ℕ) (a : FinishedCall) → slice_get (with_outcome o x.step d).calls k ≡ Some a → IsSettledIn log' x.seat a
+      → (k : ℕ) (a : CompletedCall) → slice_get (with_outcome o x.step d).calls k ≡ Some a → IsSettledIn log' x.seat a
   settled_outcome (GoesOn held) l kept history k a at = settled_later log x x.seat a (r.settled x.seat k a at)
   settled_outcome (Answers reply) l kept history k a at =
       let new = call_answered reply x.step d in
@@ -374,17 +374,17 @@ module _ (readers : ℕ) (log : Log) (r : Leads readers log) (facts : LogFacts l
         | inr u ↦ subst (IsSettledIn log' x.seat) u.1 (
           omega arith,
           subst (λ (n : ℕ). (n ≤ length (history_of log')) × IsSequential (history_of log') n (Reporter d.number) new.call reply) (sym (point_new log x place_is at_is reply))
-              (subst (λ (h : List Entry). (point_of d.held x.step.at ≤ length h) × IsSequential h (point_of d.held x.step.at) (Reporter d.number) new.call reply) history
-              (settled_now l.last kept x.seat d.number l.place new.call (point_of d.held x.step.at) reply l.answered)),
+              (subst (λ (h : List Entry). (point_of d.held x.step.length ≤ length h) × IsSequential h (point_of d.held x.step.length) (Reporter d.number) new.call reply) history
+              (settled_now l.last kept x.seat d.number l.place new.call (point_of d.held x.step.length) reply l.answered)),
         )
       ]
 
   -- the caller of a seat holds then what its pass holds
-  abbrev EachHolds : MachineState → ℕ → ClientState → Type 0
+  abbrev EachHolds : MachineState → ℕ → LocalState → Type 0
   EachHolds last seat y = seat < readers → HoldsAs y.held (held_by last.callers (caller_for seat y.number))
 
   -- a step on a match word
-  leads_turn : (o : Outcome) → Comes o → length (enlists x.step.target) ≡ 0 → with_step d x.step ≡ with_outcome o x.step d → Leads readers log'
+  leads_turn : (o : Outcome) → Comes o → length (enlists x.step.action) ≡ 0 → with_step d x.step ≡ with_outcome o x.step d → Leads readers log'
   leads_turn o l none does =
       let count : enlisted_by log' ≡ enlisted_by log = let e = enlisted_more log x in omega arith in
       let kept = run_kept (machine_steps log') (initial_state (cast_for readers)) l.last (kept_at_start (cast_for readers)) (run_on l.last l.run) in
@@ -401,7 +401,7 @@ module _ (readers : ℕ) (log : Log) (r : Leads readers log) (facts : LogFacts l
             (λ below. subst (λ (n : ℕ). HoldsAs (with_outcome o x.step d).held (held_by l.last.callers (caller_for x.seat n))) (sym after.0)
             (subst (λ (h : Pending). HoldsAs h (held_by l.last.callers c)) (sym after.1) own))
             (λ seat not below.
-            let y = client_at seat log in
+            let y = local_at seat log in
             let apart = callers_apart seat x.seat y.number d.number (λ e. not (sym e)) (numbers_apart log facts seat x.seat) in
             subst (HoldsAs y.held) (sym (l.others (caller_for seat y.number) apart)) (r.each seat below));
         unnumbered = λ n above few.
@@ -417,26 +417,26 @@ module _ (readers : ℕ) (log : Log) (r : Leads readers log) (facts : LogFacts l
     run = run_on r.state (ap (λ (l : List Step). after_steps l r.state) silent);
     history_is = r.history_is ∙ sym (history_same log x no_entry);
     settled = settled_by (with_step d x.step) refl
-        (λ k a at. settled_later log x x.seat a (r.settled x.seat k a (ap (λ (l : List FinishedCall). slice_get l k) (sym calls_are) ∙ at)));
+        (λ k a at. settled_later log x x.seat a (r.settled x.seat k a (ap (λ (l : List CompletedCall). slice_get l k) (sym calls_are) ∙ at)));
     each = by_seat log x (EachHolds r.state) (with_step d x.step) refl own (λ seat not below. r.each seat below);
     unnumbered = λ n above few. r.unnumbered n (omega arith) few;
   }
 
--- a step of this seat on this target, with its place in the log, the length of the history before it, and the entry that it adds, if any
-abbrev placed : ℕ → Target → ℕ → ℕ → Option Entry → Logged
-placed seat target place at entry = record { seat = seat; step = record { target = target; place = place; at = at; entry = entry } }
+-- a step of this seat with this action, with its index in the log, the length of the history before it, and the entry that it adds, if any
+abbrev placed : ℕ → Action → ℕ → ℕ → Option Entry → LoggedStep
+placed seat action index length entry = record { seat = seat; step = record { action = action; index = index; length = length; entry = entry } }
 
 -- each step of a log
-module _ (readers : ℕ) (log : Log) (r : Leads readers log) (is_log : IsLog log) (follows : FollowsProtocol log) (seat : ℕ) (seated : seat < readers) (place at : ℕ)
+module _ (readers : ℕ) (log : Log) (r : Leads readers log) (is_log : IsWellFormedLog log) (follows : FollowsProtocol log) (seat : ℕ) (seated : seat < readers) (place at : ℕ)
     (entry : Option Entry) (here : place ≡ length log) (now : at ≡ length (history_of log)) where
   abbrev number : ℕ
-  number = (client_at seat log).number
+  number = (local_at seat log).number
 
   abbrev held : Pending
-  held = (client_at seat log).held
+  held = (local_at seat log).held
 
   abbrev caller : Caller
-  caller = caller_for seat (client_at seat log).number
+  caller = caller_for seat (local_at seat log).number
 
   -- what the caller of the seat holds is what its pass holds
   holds_now : (h : Pending) → held ≡ h → HoldsAs h (held_by r.state.callers caller)
@@ -474,7 +474,7 @@ module _ (readers : ℕ) (log : Log) (r : Leads readers log) (is_log : IsLog log
         (look_gives r.state kept number game found at is there_now at_now e reporter of
         (ap (held_by r.state.callers) (sym same) ∙ holds_now NoCall nothing)))
 
-    leads_swap : (h : Pending) → held ≡ h → game ≡ next_game Swap h → entry ≡ entry_by number h (Match Swap game found)
+    leads_swap : (h : Pending) → held ≡ h → game ≡ next_match Swap h → entry ≡ entry_by number h (Match Swap game found)
         → Leads readers (log ++ placed seat (Match Swap game found) place at entry ∷ [])
     leads_swap (Holding e old new) is_held next made =
         let u = holds_now (Holding e old new) is_held in
@@ -485,7 +485,7 @@ module _ (readers : ℕ) (log : Log) (r : Leads readers log) (is_log : IsLog log
         (swap_gives r.state kept number game found at is there_now at_now e old new u.0 next (ap (held_by r.state.callers) (sym same) ∙ u.1)))
     leads_swap h is_held next made = absurd (let low = is.0 in omega arith)
 
-    leads_first : (h : Pending) → held ≡ h → game ≡ next_game First h → entry ≡ None
+    leads_first : (h : Pending) → held ≡ h → game ≡ next_match First h → entry ≡ None
         → Leads readers (log ++ placed seat (Match First game found) place at entry ∷ [])
     leads_first NoCall is_held next none =
         turn First game found NoCall is_held [] (ap entry_list none)
@@ -496,7 +496,7 @@ module _ (readers : ℕ) (log : Log) (r : Leads readers log) (is_log : IsLog log
         (first_gives r.state kept number game found at is there_now at_now caller ws u.0 next u.1)
     leads_first h is_held next none = absurd (let low = is.0 in omega arith)
 
-    leads_second : (h : Pending) → held ≡ h → game ≡ next_game Second h → entry ≡ None
+    leads_second : (h : Pending) → held ≡ h → game ≡ next_match Second h → entry ≡ None
         → Leads readers (log ++ placed seat (Match Second game found) place at entry ∷ [])
     leads_second (Checking ws checked point) is_held next none =
         let u = holds_now (Checking ws checked point) is_held in
@@ -505,26 +505,26 @@ module _ (readers : ℕ) (log : Log) (r : Leads readers log) (is_log : IsLog log
     leads_second h is_held next none = absurd (let low = is.0 in omega arith)
 
   -- a load of the number of reporters leaves the call as it is
-  count_does : (found : ℕ) (h : Pending) → outcome number h (Enlisted found) at ≡ GoesOn h
+  count_does : (found : ℕ) (h : Pending) → outcome number h (CountRead found) at ≡ GoesOn h
   count_does found h = search arith
 
   -- a log that leads to a state of the machine does so with one step more
-  leads_by : (target : Target) → IsThere log target → IsNextFor (client_at seat log) target → entry ≡ entry_by number held target
-      → Leads readers (log ++ placed seat target place at entry ∷ [])
+  leads_by : (action : Action) → ReadsCurrent log action → IsNextFor (local_at seat log) action → entry ≡ entry_by number held action
+      → Leads readers (log ++ placed seat action place at entry ∷ [])
   leads_by (Match (Look e) game found) there next is = leads_look game found there.0 there.1 e next.0 next.1 next.2 (is ∙ look_none held number game found e)
   leads_by (Match Swap game found) there next is = leads_swap game found there.0 there.1 held refl next is
   leads_by (Match First game found) there next is = leads_first game found there.0 there.1 held refl next (is ∙ first_none held number game found)
   leads_by (Match Second game found) there next is = leads_second game found there.0 there.1 held refl next (is ∙ second_none held number game found)
-  leads_by (Enlisted found) there next is =
-      let x = placed seat (Enlisted found) place at entry in
-      let does : with_step (client_at seat log) x.step ≡ with_outcome (GoesOn held) x.step (client_at seat log) =
-      ap (λ (o : Outcome). with_outcome o x.step (client_at seat log)) (count_does found held) in
+  leads_by (CountRead found) there next is =
+      let x = placed seat (CountRead found) place at entry in
+      let does : with_step (local_at seat log) x.step ≡ with_outcome (GoesOn held) x.step (local_at seat log) =
+      ap (λ (o : Outcome). with_outcome o x.step (local_at seat log)) (count_does found held) in
       let count = enlisted_more log x in
-      leads_same readers log r (logs_facts log is_log follows) x here now refl (is ∙ count_none held number found) (ap (λ (y : ClientState). y.calls) does) (omega arith)
+      leads_same readers log r (logs_facts log is_log follows) x here now refl (is ∙ count_none held number found) (ap (λ (y : LocalState). y.calls) does) (omega arith)
       (subst (EachHolds readers log r (logs_facts log is_log follows) x here now r.state seat) (sym does) (r.each seat))
   leads_by (Whole shown) there next is = absurd next
-  leads_by (Enlists found) there next is =
-      let x = placed seat (Enlists found) place at entry in
+  leads_by (CountRaised found) there next is =
+      let x = placed seat (CountRaised found) place at entry in
       let found_is = there.0 in
       let room = there.1 in
       let count = enlisted_more log x in
@@ -557,17 +557,17 @@ leads_none readers = record {
     reporter_idle (suc m) some few = idle_in 255 m (omega arith)
 
 -- each log that follows the protocol leads to a state of the machine
-pub leads_all : (readers : ℕ) (log : Log) → IsLog log → FollowsProtocol log → All (λ (x : Logged). x.seat < readers) log → Leads readers log
+pub leads_all : (readers : ℕ) (log : Log) → IsWellFormedLog log → FollowsProtocol log → All (λ (x : LoggedStep). x.seat < readers) log → Leads readers log
 leads_all readers log =
-    may_induction MayBeTaken (λ l. FollowsProtocol l → All (λ (x : Logged). x.seat < readers) l → Leads readers l)
+    may_induction MayBeTaken (λ l. FollowsProtocol l → All (λ (x : LoggedStep). x.seat < readers) l → Leads readers l)
     (λ f all. leads_none readers)
     (λ xs x before may was f all.
     let p = may_last IsNextOfProtocol xs x f in
     let g = may_begin IsNextOfProtocol xs (x ∷ []) f in
     let long = length_push xs x in
-    let r = was g (λ k d l. subst (λ (y : Logged). y.seat < readers) (get_or_append_left xs (x ∷ []) d k l) (all k d (omega arith))) in
-    leads_by readers xs r before g x.seat (subst (λ (y : Logged). y.seat < readers) (get_or_push xs x x (length xs) refl) (all (length xs) x (omega arith)))
-    x.step.place x.step.at x.step.entry may.place.0 may.place.1 x.step.target may.there p.next p.entry)
+    let r = was g (λ k d l. subst (λ (y : LoggedStep). y.seat < readers) (get_or_append_left xs (x ∷ []) d k l) (all k d (omega arith))) in
+    leads_by readers xs r before g x.seat (subst (λ (y : LoggedStep). y.seat < readers) (get_or_push xs x x (length xs) refl) (all (length xs) x (omega arith)))
+    x.step.index x.step.length x.step.entry may.index may.length x.step.action may.there p.next p.entry)
     log
 
 -- each log that follows the protocol, with seats below `readers`, is a run of the machine with so many readers
@@ -584,11 +584,11 @@ logs_run readers log is follows seated =
     }
 
 -- there is a number greater than each seat that took a step in a log
-pub seats_below : (log : Log) → (n : ℕ) × All (λ (x : Logged). x.seat < n) log
-seats_below [] = (0, All-nil (λ (x : Logged). x.seat < 0))
+pub seats_below : (log : Log) → (n : ℕ) × All (λ (x : LoggedStep). x.seat < n) log
+seats_below [] = (0, All-nil (λ (x : LoggedStep). x.seat < 0))
 seats_below (x ∷ log) = let t = seats_below log in let n = t.0 + (x.seat + 1) in
-    (n, All-cons (λ (y : Logged). y.seat < n) x log (omega arith) (below_more t.0 n log (omega arith) t.1))
+    (n, All-cons (λ (y : LoggedStep). y.seat < n) x log (omega arith) (below_more t.0 n log (omega arith) t.1))
 
 -- each log that follows the protocol leads to a state of the machine, with as many readers as its seats need
-pub run_of : (log : Log) → IsLog log → FollowsProtocol log → Leads (seats_below log).0 log
+pub run_of : (log : Log) → IsWellFormedLog log → FollowsProtocol log → Leads (seats_below log).0 log
 run_of log is follows = leads_all (seats_below log).0 log is follows (seats_below log).1

@@ -3,21 +3,21 @@
 use Rattle.ucl_steps.proofs.Common.{IsPrefix, ◌≡◌, ◌≢◌, inl, inr, ◌⊎◌, ℕ, zero, suc, ◌+◌, ◌<◌, ◌≤◌, ◌==◌, Bool, true, false, cond, List, [], ◌∷◌, ◌++◌, length, map}
 use Rattle.ucl_steps.proofs.Common.{Option, Some, slice_get, refl, sym, ap, ◌∙◌, subst, arith, append-nil, append_assoc, eq-eqb, ne_eqb}
 use Rattle.ucl_steps.proofs.Common.{cases_eq, cases_lt, none-some, same_Some, false≢true, length-append, map-append}
-use Rattle.ucl_steps.proofs.Common.{at_below, at_either, at_end, may_next, FinishedCall, Entry}
+use Rattle.ucl_steps.proofs.Common.{at_below, at_either, at_end, may_next, CompletedCall, Entry}
 use Rattle.ucl_steps.proofs.Common.{accepts}
 use Rattle.ucl_steps.proofs.Common.{Call, Reply, Pending, Outcome, GoesOn, Answers}
 use Rattle.std.specs.Prelude.{filter}
 use Rattle.std.proofs.lemmas.List.Elements.{filter-append}
 use Rattle.ucl_word.proofs.Sequences.{may_begin, may_induction, may_last}
-use Rattle.ucl_log.specs.Log.{Enlists, IsLog, Log, Logged, MayBeTaken, Taken, Target, entry_list, history_of}
+use Rattle.ucl_log.specs.Log.{CountRaised, IsWellFormedLog, Log, LoggedStep, MayBeTaken, TakenStep, Action, entry_list, history_of}
 use Rattle.ucl_board.proofs.HistoryTheorems.{begins_same, begins_through}
 use Rattle.ucl_log.proofs.Logs.{history_more}
-use Rattle.ucl_steps.proofs.Clients.{AllInTurn, point_new, pointed_same, all_in_turn, by_seat, checking, client_own, entries_all, entries_rise, entries_same, last_below, look_none}
+use Rattle.ucl_steps.proofs.LocalStates.{AllInTurn, point_new, pointed_same, all_in_turn, by_seat, checking, local_own, entries_all, entries_rise, entries_same, last_below, look_none}
 use Rattle.ucl_steps.proofs.LaterLogs.{calls_stay}
 use Rattle.ucl_steps.proofs.LogHistory.{logs_have_points}
-use Rattle.ucl_steps.specs.ClientState.{ClientState, FollowsProtocol, IsNextFor, IsNextOfProtocol, call_answered, call_asked, client_at, entry_by, outcome}
-use Rattle.ucl_steps.specs.ClientState.{with_step, with_target}
-use Rattle.ucl_steps.specs.ClientState.{IsCall}
+use Rattle.ucl_steps.specs.LocalState.{LocalState, FollowsProtocol, IsNextFor, IsNextOfProtocol, call_answered, call_asked, local_at, entry_by, outcome}
+use Rattle.ucl_steps.specs.LocalState.{with_step, with_action}
+use Rattle.ucl_steps.specs.LocalState.{IsCompleted}
 use Rattle.ucl_steps.proofs.Points.{HasPoints, IsExplained, PointedCall, entries_before, point_of, pointed}
 use Rattle.ucl_steps.specs.Linearizability.{Operation}
 use Rattle.ucl_steps.specs.Strong.{is_report}
@@ -25,7 +25,7 @@ use Rattle.ucl_steps.proofs.CallEvents.{events_before}
 use Rattle.ucl_steps.proofs.CallHistories.{events_same}
 use Rattle.ucl_steps.proofs.EventLists.{same_fields}
 
--- a finished call with its point, the seat of its pass and its turn
+-- a completed call with its point, the seat of its pass and its turn
 pub record Done : Type 0 where
   pub seat : ℕ
   pub turn : ℕ
@@ -40,7 +40,7 @@ operation_with place d = record { process = d.seat; call = (d.call.number, d.cal
 
 -- the operation that it is in the history of calls of a log
 abbrev pub as_operation : Log → Done → Operation (ℕ × Call) Reply
-as_operation log d = operation_with (λ (e : Done). events_before log e.call.first) d
+as_operation log d = operation_with (λ (e : Done). events_before log e.call.first_index) d
 
 -- how many entries a call made
 abbrev pub size : Done → ℕ
@@ -80,7 +80,7 @@ PointsFrom n (d ∷ list) = (d.call.point ≡ n) × PointsFrom (n + size d) list
 
 -- d did not begin after e ended, and is another call
 pub record Before (d e : Done) : Type 0 where
-  pub first : d.call.first ≤ e.call.last
+  pub first : d.call.first_index ≤ e.call.last_index
   pub apart : d.seat ≡ e.seat → d.turn ≡ e.turn → ⊥
 
 abbrev pub Pairs : List Done → Type 0
@@ -221,19 +221,19 @@ same_map f g (d ∷ list) each = ap (λ (o : Operation (ℕ × Call) Reply). o �
     ∙ ap (λ (l : List (Operation (ℕ × Call) Reply)). g d ∷ l) (same_map f g list (λ q. each (suc q)))
 
 -- the outcome of a step after a log
-abbrev outcome_after : Log → Logged → Outcome
-outcome_after log x = let d = client_at x.seat log in outcome d.number d.held x.step.target x.step.at
+abbrev outcome_after : Log → LoggedStep → Outcome
+outcome_after log x = let d = local_at x.seat log in outcome d.number d.held x.step.action x.step.length
 
 -- the calls after a step of this outcome
-abbrev placed_by : Log → Logged → Outcome → List Done → List Done
+abbrev placed_by : Log → LoggedStep → Outcome → List Done → List Done
 placed_by log x (GoesOn held) list = list
 placed_by log x (Answers reply) list =
-    let d = client_at x.seat log in place (done_of x.seat (length d.calls) (pointed (log ++ x ∷ []) x.seat (call_answered reply x.step d))) list
+    let d = local_at x.seat log in place (done_of x.seat (length d.calls) (pointed (log ++ x ∷ []) x.seat (call_answered reply x.step d))) list
 
-abbrev placed_after : Log → Logged → List Done → List Done
+abbrev placed_after : Log → LoggedStep → List Done → List Done
 placed_after log x list = placed_by log x (outcome_after log x) list
 
--- the finished calls of a log, each in its place
+-- the completed calls of a log, each in its place
 abbrev done_after : Log → List Done → Log → List Done
 done_after before list [] = list
 done_after before list (x ∷ log) = done_after (before ++ x ∷ []) (placed_after before x list) log
@@ -247,11 +247,11 @@ done_append before list (x ∷ xs) ys =
     done_append (before ++ x ∷ []) (placed_after before x list) xs ys
     ∙ ap (λ (l : Log). done_after l (done_after (before ++ x ∷ []) (placed_after before x list) xs) ys) (append_assoc before (x ∷ []) xs)
 
-done_more : (log : Log) (x : Logged) → done (log ++ x ∷ []) ≡ placed_after log x (done log)
+done_more : (log : Log) (x : LoggedStep) → done (log ++ x ∷ []) ≡ placed_after log x (done log)
 done_more log x = done_append [] [] log (x ∷ [])
 
 -- an enlistment ends no call
-enlists_on : (number : ℕ) (h : Pending) (found now : ℕ) → outcome number h (Enlists found) now ≡ GoesOn h
+enlists_on : (number : ℕ) (h : Pending) (found now : ℕ) → outcome number h (CountRaised found) now ≡ GoesOn h
 enlists_on number h found now = search arith
 
 -- how many entries come with an outcome
@@ -259,48 +259,48 @@ abbrev size_by : Outcome → ℕ
 size_by (GoesOn held) = 0
 size_by (Answers reply) = cond (accepts reply) 1 0
 
-size_is : (number : ℕ) (h : Pending) (t : Target) (now : ℕ) → length (entry_list (entry_by number h t)) ≡ size_by (outcome number h t now)
+size_is : (number : ℕ) (h : Pending) (t : Action) (now : ℕ) → length (entry_list (entry_by number h t)) ≡ size_by (outcome number h t now)
 size_is number h t now = search (arith, look_none)
 
 -- a report takes effect at the step at which it ends
-point_now : (d : ClientState) (h : Pending) (t : Target) (now : ℕ) → d.held ≡ h → IsNextFor d t → is_report (call_asked h t) ≡ true → point_of h now ≡ now
+point_now : (d : LocalState) (h : Pending) (t : Action) (now : ℕ) → d.held ≡ h → IsNextFor d t → is_report (call_asked h t) ≡ true → point_of h now ≡ now
 point_now d h t now holds next asked = search (arith, false≢true, checking)
 
--- what a step leaves of the finished calls of its pass, by its outcome
-calls_on : (d : ClientState) (x : Taken) (t : Target) (held : Pending) → outcome d.number d.held t x.at ≡ GoesOn held → (with_target t x d).calls ≡ d.calls
+-- what a step leaves of the completed calls of its pass, by its outcome
+calls_on : (d : LocalState) (x : TakenStep) (t : Action) (held : Pending) → outcome d.number d.held t x.length ≡ GoesOn held → (with_action t x d).calls ≡ d.calls
 calls_on d x t held on = search arith
 
-calls_end : (d : ClientState) (x : Taken) (t : Target) (reply : Reply) → outcome d.number d.held t x.at ≡ Answers reply → (with_target t x d).calls ≡ d.calls ++ call_answered reply x d ∷ []
+calls_end : (d : LocalState) (x : TakenStep) (t : Action) (reply : Reply) → outcome d.number d.held t x.length ≡ Answers reply → (with_action t x d).calls ≡ d.calls ++ call_answered reply x d ∷ []
 calls_end d x t reply on = search (arith, enlists_on)
 
--- this is a finished call of the log
+-- this is a completed call of the log
 pub record IsDoneCall (log : Log) (e : Done) : Type 0 where
-  pub call : FinishedCall
-  pub is : IsCall log e.seat e.turn call
+  pub call : CompletedCall
+  pub is : IsCompleted log e.seat e.turn call
   pub same : pointed log e.seat call ≡ e.call
 
--- a finished call of the log is among these
-abbrev pub HasPlace : Log → List Done → ℕ → ℕ → FinishedCall → Type 0
+-- a completed call of the log is among these
+abbrev pub HasPlace : Log → List Done → ℕ → ℕ → CompletedCall → Type 0
 HasPlace log list seat turn c = (p : ℕ) × (slice_get list p ≡ Some (done_of seat turn (pointed log seat c)))
 
--- these calls are the finished ones of the log, each once, in the order of time and of their points
+-- these calls are the completed ones of the log, each once, in the order of time and of their points
 pub record IsDone (log : Log) (list : List Done) : Type 0 where
   pub are : Each (IsDoneCall log) list
-  pub all : (seat turn : ℕ) (c : FinishedCall) → IsCall log seat turn c → HasPlace log list seat turn c
+  pub all : (seat turn : ℕ) (c : CompletedCall) → IsCompleted log seat turn c → HasPlace log list seat turn c
   pub pairs : Pairs list
   pub points : PointsFrom 0 list
   pub size_all : sizes list ≡ length (history_of log)
 
 -- a log with one step more
-module _ (log : Log) (x : Logged) (is : IsLog (log ++ x ∷ [])) (follows : FollowsProtocol (log ++ x ∷ [])) (list : List Done) (was : IsDone log list) where
+module _ (log : Log) (x : LoggedStep) (is : IsWellFormedLog (log ++ x ∷ [])) (follows : FollowsProtocol (log ++ x ∷ [])) (list : List Done) (was : IsDone log list) where
   may : MayBeTaken log x
   may = may_last MayBeTaken log x is
 
   next : IsNextOfProtocol log x
   next = may_last IsNextOfProtocol log x follows
 
-  abbrev d : ClientState
-  d = client_at x.seat log
+  abbrev d : LocalState
+  d = local_at x.seat log
 
   abbrev longer : Log
   longer = log ++ x ∷ []
@@ -309,24 +309,24 @@ module _ (log : Log) (x : Logged) (is : IsLog (log ++ x ∷ [])) (follows : Foll
   turns = all_in_turn log (may_begin MayBeTaken log (x ∷ []) is) (may_begin IsNextOfProtocol log (x ∷ []) follows)
 
   -- old calls stay
-  stays : (seat turn : ℕ) (c : FinishedCall) → IsCall log seat turn c → IsCall longer seat turn c
+  stays : (seat turn : ℕ) (c : CompletedCall) → IsCompleted log seat turn c → IsCompleted longer seat turn c
   stays seat turn c at = calls_stay log longer seat turn c (x ∷ [], refl) at
 
-  keeps : (seat turn : ℕ) (c : FinishedCall) → IsCall log seat turn c → pointed longer seat c ≡ pointed log seat c
+  keeps : (seat turn : ℕ) (c : CompletedCall) → IsCompleted log seat turn c → pointed longer seat c ≡ pointed log seat c
   keeps seat turn c at = pointed_same log x seat c ((turns seat).timed turn c at)
 
   still : (e : Done) → IsDoneCall log e → IsDoneCall longer e
   still e u = record { call = u.call; is = stays e.seat e.turn u.call u.is; same = keeps e.seat e.turn u.call u.is ∙ u.same }
 
   has_place : (more : List Done) → ((q : ℕ) (e : Done) → slice_get list q ≡ Some e → (p : ℕ) × (slice_get more p ≡ Some e))
-      → (seat turn : ℕ) (c : FinishedCall) → IsCall log seat turn c → HasPlace longer more seat turn c
+      → (seat turn : ℕ) (c : CompletedCall) → IsCompleted log seat turn c → HasPlace longer more seat turn c
   has_place more old seat turn c at =
       let u = was.all seat turn c at in
       old u.0 (done_of seat turn (pointed longer seat c)) (u.1 ∙ ap (λ (z : PointedCall). Some (done_of seat turn z)) (sym (keeps seat turn c at)))
 
   grows : length (history_of longer) ≡ length (history_of log) + size_by (outcome_after log x)
   grows = ap length (history_more log x) ∙ (length-append (history_of log) (entry_list x.step.entry)
-      ∙ ap (λ (n : ℕ). length (history_of log) + n) (ap (λ (o : Option Entry). length (entry_list o)) next.entry ∙ size_is d.number d.held x.step.target x.step.at))
+      ∙ ap (λ (n : ℕ). length (history_of log) + n) (ap (λ (o : Option Entry). length (entry_list o)) next.entry ∙ size_is d.number d.held x.step.action x.step.length))
 
   -- old operations stay
   same_reports : reports longer list ≡ reports log list
@@ -335,15 +335,15 @@ module _ (log : Log) (x : Logged) (is : IsLog (log ++ x ∷ [])) (follows : Foll
       let timed = (turns e.seat).timed e.turn u.call u.is in
       let below = last_below log e.seat u.call timed in
       let low = timed.first in
-      let first = ap (λ (z : PointedCall). z.first) u.same in
-      same_fields (as_operation longer e) (as_operation log e) refl refl (events_same log x e.call.first (omega arith)) refl))
+      let first = ap (λ (z : PointedCall). z.first_index) u.same in
+      same_fields (as_operation longer e) (as_operation log e) refl refl (events_same log x e.call.first_index (omega arith)) refl))
 
   -- the call goes on
   done_on : (held : Pending) → outcome_after log x ≡ GoesOn held → IsDone longer list
   done_on held on = record {
     are = λ q e at. still e (was.are q e at);
-    all = by_seat log x (λ seat y. (turn : ℕ) (c : FinishedCall) → slice_get y.calls turn ≡ Some c → HasPlace longer list seat turn c) (with_step d x.step) refl
-        (λ turn c at. has_place list (λ q e u. (q, u)) x.seat turn c (ap (λ (l : List FinishedCall). slice_get l turn) (sym (calls_on d x.step x.step.target held on)) ∙ at))
+    all = by_seat log x (λ seat y. (turn : ℕ) (c : CompletedCall) → slice_get y.calls turn ≡ Some c → HasPlace longer list seat turn c) (with_step d x.step) refl
+        (λ turn c at. has_place list (λ q e u. (q, u)) x.seat turn c (ap (λ (l : List CompletedCall). slice_get l turn) (sym (calls_on d x.step x.step.action held on)) ∙ at))
         (λ seat not. has_place list (λ q e u. (q, u)) seat);
     pairs = was.pairs;
     points = was.points;
@@ -352,17 +352,17 @@ module _ (log : Log) (x : Logged) (is : IsLog (log ++ x ∷ [])) (follows : Foll
 
   -- the call ends
   module _ (reply : Reply) (on : outcome_after log x ≡ Answers reply) where
-    abbrev c : FinishedCall
+    abbrev c : CompletedCall
     c = call_answered reply x.step d
 
     abbrev r : Done
     r = done_of x.seat (length d.calls) (pointed longer x.seat c)
 
-    own_calls : (client_at x.seat longer).calls ≡ d.calls ++ c ∷ []
-    own_calls = ap (λ (y : ClientState). y.calls) (client_own log x) ∙ calls_end d x.step x.step.target reply on
+    own_calls : (local_at x.seat longer).calls ≡ d.calls ++ c ∷ []
+    own_calls = ap (λ (y : LocalState). y.calls) (local_own log x) ∙ calls_end d x.step x.step.action reply on
 
-    is_call : IsCall longer x.seat (length d.calls) c
-    is_call = ap (λ (l : List FinishedCall). slice_get l (length d.calls)) own_calls ∙ at_end d.calls c
+    is_call : IsCompleted longer x.seat (length d.calls) c
+    is_call = ap (λ (l : List CompletedCall). slice_get l (length d.calls)) own_calls ∙ at_end d.calls c
 
     lin : HasPoints longer
     lin = logs_have_points longer is follows
@@ -371,8 +371,8 @@ module _ (log : Log) (x : Logged) (is : IsLog (log ++ x ∷ [])) (follows : Foll
     explains e u = let v = still e u in subst (IsExplained (history_of longer)) v.same (lin.explained e.seat e.turn v.call v.is)
 
     -- there are as many entries before the step as the log has
-    here : entries_before longer c.last ≡ length (history_of log)
-    here = ap (entries_before longer) may.place.0 ∙ (entries_same log (x ∷ []) (length log) (omega arith) ∙ entries_all log)
+    here : entries_before longer c.last_index ≡ length (history_of log)
+    here = ap (entries_before longer) may.index ∙ (entries_same log (x ∷ []) (length log) (omega arith) ∙ entries_all log)
 
     low_point : r.call.point ≤ 0 + sizes list
     low_point = let late = (lin.timely x.seat (length d.calls) c is_call).1 in let same = here in let all = was.size_all in omega arith
@@ -384,9 +384,9 @@ module _ (log : Log) (x : Logged) (is : IsLog (log ++ x ∷ [])) (follows : Foll
 
     report_last : is_report c.call ≡ true → r.call.point ≡ 0 + sizes list
     report_last so =
-        let new = point_new log x may.place.0 may.place.1 reply in
-        let point = point_now d d.held x.step.target x.step.at refl next.next so in
-        let at = may.place.1 in
+        let new = point_new log x may.index may.length reply in
+        let point = point_now d d.held x.step.action x.step.length refl next.next so in
+        let at = may.length in
         let all = was.size_all in
         omega arith
 
@@ -399,13 +399,13 @@ module _ (log : Log) (x : Logged) (is : IsLog (log ++ x ∷ [])) (follows : Foll
         let u = was.are q e at in
         let turn = (explains e u).turn in
         let ended = last_below log e.seat u.call ((turns e.seat).timed e.turn u.call u.is) in
-        let last = may.place.0 in
-        let same = ap (λ (z : PointedCall). z.last) u.same in
+        let last = may.index in
+        let same = ap (λ (z : PointedCall). z.last_index) u.same in
         record {
           first = omega arith;
           apart = λ seat same.
-              let low = at_below (client_at e.seat log).calls e.turn u.call u.is in
-              let long = ap (λ (n : ℕ). length (client_at n log).calls) seat in
+              let low = at_below (local_at e.seat log).calls e.turn u.call u.is in
+              let long = ap (λ (n : ℕ). length (local_at n log).calls) seat in
               omega arith;
         }
 
@@ -415,11 +415,11 @@ module _ (log : Log) (x : Logged) (is : IsLog (log ++ x ∷ [])) (follows : Foll
         let other = comes_after q e at in
         let v = still e (was.are q e at) in
         record {
-          first = elim (cases_lt e.call.last c.first) [
+          first = elim (cases_lt e.call.last_index c.first_index) [
             | inl less ↦
-                let last = ap (λ (z : PointedCall). z.last) v.same in
+                let last = ap (λ (z : PointedCall). z.last_index) v.same in
                 let ends = ap (λ (z : PointedCall). z.ended) v.same in
-                let rise = entries_rise longer (v.call.last + 1) c.first (omega arith) in
+                let rise = entries_rise longer (v.call.last_index + 1) c.first_index (omega arith) in
                 let within = (lin.explained x.seat (length d.calls) c is_call).within.0 in
                 absurd (omega arith)
             | inr not ↦ not
@@ -441,8 +441,8 @@ module _ (log : Log) (x : Logged) (is : IsLog (log ++ x ∷ [])) (follows : Foll
         | inl same ↦ subst (IsDoneCall longer) same (record { call = c; is = is_call; same = refl })
         | inr u ↦ still e (was.are u.0 e u.1)
       ];
-      all = by_seat log x (λ seat y. (turn : ℕ) (a : FinishedCall) → slice_get y.calls turn ≡ Some a → HasPlace longer (place r list) seat turn a) (with_step d x.step) refl
-          (λ turn a at. elim (at_either d.calls c turn a (ap (λ (l : List FinishedCall). slice_get l turn) (sym (calls_end d x.step x.step.target reply on)) ∙ at)) [
+      all = by_seat log x (λ seat y. (turn : ℕ) (a : CompletedCall) → slice_get y.calls turn ≡ Some a → HasPlace longer (place r list) seat turn a) (with_step d x.step) refl
+          (λ turn a at. elim (at_either d.calls c turn a (ap (λ (l : List CompletedCall). slice_get l turn) (sym (calls_end d x.step x.step.action reply on)) ∙ at)) [
             | inl u ↦ has_place (place r list) (place_old r list) x.seat turn a u.1
             | inr u ↦ subst (λ (n : ℕ). HasPlace longer (place r list) x.seat n a) (sym u.0)
                 (subst (HasPlace longer (place r list) x.seat (length d.calls)) u.1 (place_new r list))
@@ -464,7 +464,7 @@ module _ (log : Log) (x : Logged) (is : IsLog (log ++ x ∷ [])) (follows : Foll
   )
 
 -- the calls that are placed are those of the log
-pub done_all : (log : Log) → IsLog log → FollowsProtocol log → IsDone log (done log)
+pub done_all : (log : Log) → IsWellFormedLog log → FollowsProtocol log → IsDone log (done log)
 done_all log is = may_induction MayBeTaken (λ l. FollowsProtocol l → IsDone l (done l))
     (λ f. search (arith, none-some))
     (λ xs x before may was f.
@@ -473,12 +473,12 @@ done_all log is = may_induction MayBeTaken (λ l. FollowsProtocol l → IsDone l
     log is
 
 -- a longer log leaves the reports as they are, and in their order
-pub reports_stay : (log more : Log) → IsLog (log ++ more) → FollowsProtocol (log ++ more) → IsPrefix (reports log (done log)) (reports (log ++ more) (done (log ++ more)))
+pub reports_stay : (log more : Log) → IsWellFormedLog (log ++ more) → FollowsProtocol (log ++ more) → IsPrefix (reports log (done log)) (reports (log ++ more) (done (log ++ more)))
 reports_stay log [] is follows = subst (λ (l : Log). IsPrefix (reports log (done log)) (reports l (done l))) (sym (append-nil log)) (begins_same (reports log (done log)))
 reports_stay log (x ∷ more) is follows =
     let longer = log ++ x ∷ [] in
     let assoc : longer ++ more ≡ log ++ x ∷ more = append_assoc log (x ∷ []) more in
-    let all = subst IsLog (sym assoc) is in
+    let all = subst IsWellFormedLog (sym assoc) is in
     let followed = subst FollowsProtocol (sym assoc) follows in
     let one = may_begin MayBeTaken longer more all in
     let one_follows = may_begin IsNextOfProtocol longer more followed in

@@ -1,8 +1,8 @@
--- Linearization points: a call with point k takes effect after the first k entries of the history. Which each finished call of a log has.
+-- Linearization points: a call with point k takes effect after the first k entries of the history. Which each completed call of a log has.
 use Rattle.ucl_steps.proofs.Common.{◌≡◌, ℕ, ◌+◌, ◌<◌, ◌≤◌, true, List, length, take, Some, slice_get, Entry, EventCall, entry_of, sequential_reply, snapshot_at}
-use Rattle.ucl_steps.proofs.Common.{Call, Event, Reading, Reply, Copied, FinishedCall, Pending, Checking, accepts}
+use Rattle.ucl_steps.proofs.Common.{Call, Event, Reading, Reply, Copied, CompletedCall, Pending, Checking, accepts}
 use Rattle.ucl_log.specs.Log.{Log, history_of}
-use Rattle.ucl_steps.specs.ClientState.{IsCall, client_at}
+use Rattle.ucl_steps.specs.LocalState.{IsCompleted, local_at}
 use Rattle.ucl_steps.specs.Protocol.{report_reply}
 
 -- a call that has its reply, with its linearization point; the times of its beginning and its end, as places among steps or events (`first`,
@@ -12,8 +12,8 @@ pub record PointedCall : Type 0 where
   pub call : Call
   pub reply : Reply
   pub point : ℕ
-  pub first : ℕ
-  pub last : ℕ
+  pub first_index : ℕ
+  pub last_index : ℕ
   pub begun : ℕ
   pub ended : ℕ
 
@@ -32,7 +32,7 @@ pub record MakesEntry (history : List Entry) (c : PointedCall) : Type 0 where
 -- a call has the reply of the board of one thread after the entries before the call's point; the point is not before the call's beginning,
 -- nor after its end; and if the call was accepted, it made the entry at its point
 pub record IsExplained (history : List Entry) (c : PointedCall) : Type 0 where
-  pub turn : c.first ≤ c.last
+  pub turn : c.first_index ≤ c.last_index
   pub within : (c.begun ≤ c.point) × (c.point ≤ c.ended) × (c.ended ≤ length history)
   pub answer : c.reply ≡ sequential_answer history c.point c.call
   pub makes : accepts c.reply ≡ true → MakesEntry history c
@@ -47,24 +47,24 @@ abbrev pub point_of : Pending → ℕ → ℕ
 point_of (Checking words checked point) now = point
 point_of held now = now
 
--- that of a finished call of the pass at a seat
-abbrev pub point_at : Log → ℕ → FinishedCall → ℕ
-point_at log seat c = point_of (client_at seat (take c.last log)).held (entries_before log c.last)
+-- that of a completed call of the pass at a seat
+abbrev pub point_at : Log → ℕ → CompletedCall → ℕ
+point_at log seat c = point_of (local_at seat (take c.last_index log)).held (entries_before log c.last_index)
 
 -- this call with its point
-abbrev pub pointed : Log → ℕ → FinishedCall → PointedCall
+abbrev pub pointed : Log → ℕ → CompletedCall → PointedCall
 pointed log seat c = record {
   number = c.number;
   call = c.call;
   reply = c.reply;
   point = point_at log seat c;
-  first = c.first;
-  last = c.last;
-  begun = entries_before log c.first;
-  ended = entries_before log (c.last + 1);
+  first_index = c.first_index;
+  last_index = c.last_index;
+  begun = entries_before log c.first_index;
+  ended = entries_before log (c.last_index + 1);
 }
 
--- the history of a log explains each finished call of each pass, which ended with a step of the log; its point is not after this step
+-- the history of a log explains each completed call of each pass, which ended with a step of the log; its point is not after this step
 pub record HasPoints (log : Log) : Type 0 where
-  pub explained : (seat k : ℕ) (c : FinishedCall) → IsCall log seat k c → IsExplained (history_of log) (pointed log seat c)
-  pub timely : (seat k : ℕ) (c : FinishedCall) → IsCall log seat k c → (c.last < length log) × (point_at log seat c ≤ entries_before log c.last)
+  pub explained : (seat k : ℕ) (c : CompletedCall) → IsCompleted log seat k c → IsExplained (history_of log) (pointed log seat c)
+  pub timely : (seat k : ℕ) (c : CompletedCall) → IsCompleted log seat k c → (c.last_index < length log) × (point_at log seat c ≤ entries_before log c.last_index)

@@ -52,11 +52,11 @@ WayOf es a p = HasUnderWay es (process_for a.caller) (Some ((caller_number a.cal
 pub record IsPlaced (calls : List CallRecord) (places : List ℕ) (now n : ℕ) (d : Done) : Type 0 where
   pub call : CallRecord
   pub at : slice_get calls d.turn ≡ Some call
-  pub place : slice_get places d.turn ≡ Some d.call.first
+  pub place : slice_get places d.turn ≡ Some d.call.first_index
   pub decided : IsDecided call d.call.point d.call.reply
   pub asks : (d.seat ≡ process_for call.caller) × (d.call.number ≡ caller_number call.caller) × (d.call.call ≡ call.call)
   pub began : d.call.begun ≡ call.begun
-  pub times : (d.call.first ≤ d.call.last) × (d.call.last ≤ now)
+  pub times : (d.call.first_index ≤ d.call.last_index) × (d.call.last_index ≤ now)
   pub fits : Fits d
   pub ended : d.call.ended ≤ n
 
@@ -74,7 +74,7 @@ pub record IsResponse (es : List BoardEvent) (calls : List CallRecord) (places :
 
 -- it is still one, if it is there, as time goes on
 placed_in : {calls calls' : List CallRecord} {places places' : List ℕ} {now now' n n' : ℕ} (d : Done) (s : IsPlaced calls places now n d) → now ≤ now' → n ≤ n'
-    → slice_get calls' d.turn ≡ Some s.call → slice_get places' d.turn ≡ Some d.call.first → IsPlaced calls' places' now' n' d
+    → slice_get calls' d.turn ≡ Some s.call → slice_get places' d.turn ≡ Some d.call.first_index → IsPlaced calls' places' now' n' d
 placed_in d s later more at invoked = search (arith, s.call, s.decided, s.asks, s.began, s.times, s.fits, s.ended)
 
 response_in : {es es' : List BoardEvent} {calls calls' : List CallRecord} {places places' : List ℕ} {n process : ℕ} {reply : Reply} (s : IsResponse es calls places n process reply)
@@ -84,7 +84,7 @@ response_in s at invoked made = search (arith, s.number, s.place, s.call, s.ende
 
 -- an ended call is an operation, with its response not before it was replied to
 abbrev pub IsMadeOf : List BoardEvent → List Done → ℕ → CallRecord → ℕ → Reply → Type 0
-IsMadeOf es list i a p reply = (n : ℕ) × IsOperationAt es n (operation_by a p reply) × ((q : ℕ) (d : Done) → slice_get list q ≡ Some d → d.turn ≡ i → d.call.last ≤ n)
+IsMadeOf es list i a p reply = (n : ℕ) × IsOperationAt es n (operation_by a p reply) × ((q : ℕ) (d : Done) → slice_get list q ≡ Some d → d.turn ≡ i → d.call.last_index ≤ n)
 
 -- the events tell of these calls, which were invoked at these places, and those that have their replies are placed; the history has n entries
 pub record Told (es : List BoardEvent) (list : List Done) (calls : List CallRecord) (n : ℕ) : Type 0 where
@@ -96,7 +96,7 @@ pub record Told (es : List BoardEvent) (list : List Done) (calls : List CallReco
   pub only : (place process : ℕ) (asked : ℕ × Call) → slice_get es place ≡ Some (Invocation process asked) → (i : ℕ) × (slice_get places i ≡ Some place)
   pub busy : (i p : ℕ) (a : CallRecord) → slice_get calls i ≡ Some a → slice_get places i ≡ Some p → a.ended ≡ None → WayOf es a p
   pub idle : (c : Caller) → ((i : ℕ) (a : CallRecord) → slice_get calls i ≡ Some a → a.caller ≡ c → IsSome a.ended) → HasUnderWay es (process_for c) None
-  pub finished : (i p : ℕ) (a : CallRecord) (reply : Reply) → slice_get calls i ≡ Some a → slice_get places i ≡ Some p → IsSome a.ended → a.reply ≡ Some reply
+  pub completed : (i p : ℕ) (a : CallRecord) (reply : Reply) → slice_get calls i ≡ Some a → slice_get places i ≡ Some p → IsSome a.ended → a.reply ≡ Some reply
       → IsMadeOf es list i a p reply
   pub formed : IsWellFormed es
   pub responses : (place process : ℕ) (reply : Reply) → slice_get es place ≡ Some (Response process reply) → IsResponse es calls places place process reply
@@ -106,7 +106,7 @@ pub record Told (es : List BoardEvent) (list : List Done) (calls : List CallReco
   pub points : PointsFrom 0 list
   pub size_all : sizes list ≡ n
   pub later : (q : ℕ) (d : Done) (j p : ℕ) (b : CallRecord) → slice_get list q ≡ Some d → slice_get calls j ≡ Some b → slice_get places j ≡ Some p
-      → d.call.last < p → d.call.ended ≤ b.begun
+      → d.call.last_index < p → d.call.ended ≤ b.begun
 
 module _ (es : List BoardEvent) (list : List Done) (calls : List CallRecord) (n : ℕ) (t : Told es list calls n) where
   -- a call has its place
@@ -169,9 +169,9 @@ module _ (es : List BoardEvent) (list : List Done) (calls : List CallRecord) (n 
         | inl is ↦ absurd (not_some new.ended refl (all (length calls) new (at_end calls new) (sym is)))
         | inr not ↦ under_way_other es event (process_for d) None (λ same. not (sym (same_process c d same))) (t.idle d (λ i a at own. all i a (at_longer calls (new ∷ []) i a at) own))
       ];
-      finished = λ i p a reply at place ended replied. elim (at_either calls new i a at) [
+      completed = λ i p a reply at place ended replied. elim (at_either calls new i a at) [
         | inl u ↦
-            let s = t.finished i p a reply u.1 (old_place i p u.0 place) ended replied in
+            let s = t.completed i p a reply u.1 (old_place i p u.0 place) ended replied in
             (s.0, longer es (event ∷ []) s.0 (operation_by a p reply) s.1, s.2)
         | inr u ↦ absurd (not_some a.ended (ap (λ (z : CallRecord). z.ended) (sym u.1)) ended)
       ];
@@ -186,7 +186,7 @@ module _ (es : List BoardEvent) (list : List Done) (calls : List CallRecord) (n 
       are = λ q d at.
           let s = t.are q d at in
           let push = length_push es event in
-          placed_in d s (omega arith) (le_refl n) (at_longer calls (new ∷ []) d.turn s.call s.at) (at_longer t.places (length es ∷ []) d.turn d.call.first s.place);
+          placed_in d s (omega arith) (le_refl n) (at_longer calls (new ∷ []) d.turn s.call s.at) (at_longer t.places (length es ∷ []) d.turn d.call.first_index s.place);
       all = λ i a at some. elim (at_either calls new i a at) [
         | inl u ↦ t.all i a u.1 some
         | inr u ↦ absurd (not_some a.reply (ap (λ (z : CallRecord). z.reply) (sym u.1)) some)
@@ -288,7 +288,7 @@ module _ (es : List BoardEvent) (list : List Done) (calls : List CallRecord) (n 
               (t.idle d (λ i a at own. all i a (change_at_else k ends calls i a
               (λ is. not (sym own ∙ ap (λ (z : CallRecord). z.caller) (same_Some a call (sym at ∙ (ap (slice_get calls) is ∙ here))))) at) own))
         ];
-        finished = λ i p a r at place ended gets. elim (get-change_at k ends calls i a at) [
+        completed = λ i p a r at place ended gets. elim (get-change_at k ends calls i a at) [
           | inl u ↦
               let x_is : call ≡ u.1 = same_Some call u.1 (sym here ∙ u.2) in
               let a_is : with_end n call ≡ a = ap (with_end n) x_is ∙ u.3 in (
@@ -297,7 +297,7 @@ module _ (es : List BoardEvent) (list : List Done) (calls : List CallRecord) (n 
                 λ q d bt turn. (t.are q d bt).times.1,
               )
           | inr u ↦
-              let s = t.finished i p a r u.1 place ended gets in
+              let s = t.completed i p a r u.1 place ended gets in
               (s.0, longer es (answer ∷ []) s.0 (operation_by a p r) s.1, s.2)
         ];
         formed = well_formed_next es answer t.formed (t.busy k p0 call here (place_at k call here).1 unended).0;
@@ -345,7 +345,7 @@ module _ (es : List BoardEvent) (list : List Done) (calls : List CallRecord) (n 
       r = record {
         seat = process_for call.caller;
         turn = k;
-        call = record { number = caller_number call.caller; call = call.call; reply = reply; point = point; first = p4; last = length es; begun = call.begun; ended = n4 };
+        call = record { number = caller_number call.caller; call = call.call; reply = reply; point = point; first_index = p4; last_index = length es; begun = call.begun; ended = n4 };
       }
 
       -- a call that is placed is another
@@ -384,7 +384,7 @@ module _ (es : List BoardEvent) (list : List Done) (calls : List CallRecord) (n 
 
       after_new : Each (λ e. r.call.point < e.call.ended → Before r e) list
       after_new q e at less = record {
-        first = elim (cases_lt e.call.last p4) [
+        first = elim (cases_lt e.call.last_index p4) [
           | inl over ↦ let began = t.later q e k p4 call at here (place_at k call here).1 over in absurd (omega arith)
           | inr not ↦ not
         ];
@@ -411,10 +411,10 @@ module _ (es : List BoardEvent) (list : List Done) (calls : List CallRecord) (n 
               (all k (gets call) (change_at_here k gets calls call here) (ap (λ (z : CallRecord). z.caller) a_is ∙ own))
           | inr not ↦ all i a (change_at_else k gets calls i a not at) own
         ]);
-        finished = λ i p a s at place ended replied. elim (get-change_at k gets calls i a at) [
+        completed = λ i p a s at place ended replied. elim (get-change_at k gets calls i a at) [
           | inl u ↦ absurd (other_call i u.1 (ap (slice_get calls) u.0 ∙ u.2) (subst (λ (z : CallRecord). IsSome z.ended) (sym u.3) ended) u.0)
           | inr u ↦
-              let m = t.finished i p a s u.1 place ended replied in (
+              let m = t.completed i p a s u.1 place ended replied in (
                 m.0,
                 m.1,
                 λ q d bt turn. elim (place_from r list q d bt) [
@@ -452,7 +452,7 @@ told_none = record {
   only = λ place process asked at. absurd (none-some (Invocation process asked) at);
   busy = λ i p a at place none. absurd (none-some a at);
   idle = λ c all. refl;
-  finished = λ i p a reply at place ended replied. absurd (none-some a at);
+  completed = λ i p a reply at place ended replied. absurd (none-some a at);
   formed = λ place e at. absurd (none-some e at);
   responses = λ place process reply at. absurd (none-some (Response process reply) at);
   are = λ q d at. absurd (none-some d at);

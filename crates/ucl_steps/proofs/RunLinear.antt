@@ -22,7 +22,7 @@ use Rattle.ucl_steps.proofs.EventLists.{IsOperationAt, same_fields, same_operati
 use Rattle.ucl_steps.proofs.Freshness.{linearizable_whole}
 use Rattle.ucl_steps.proofs.Histories.{get-change_at, map_unseen}
 use Rattle.ucl_steps.proofs.LogRuns.{run_append as steps_append}
-use Rattle.ucl_steps.proofs.ObjectRuns.{leaves, linearization, to_map}
+use Rattle.ucl_steps.proofs.LegalSequences.{leaves, linearization, to_map}
 use Rattle.ucl_steps.proofs.Placed.{Done, Each, PointsFrom, operation_with, size, sizes}
 use Rattle.ucl_steps.proofs.Points.{IsExplained}
 use Rattle.ucl_steps.proofs.RunEvents.{IsPlaced, Told, not_some, run_more, same_places, told_begin, told_end, told_none, told_reply}
@@ -306,13 +306,13 @@ module _ (cast : Cast) (steps : List Step) (w : MachineState) (kept : Keeps w) (
 
   -- a call as an operation
   abbrev first_of : Done → ℕ
-  first_of d = d.call.first
+  first_of d = d.call.first_index
 
   abbrev as_made : Done → Operation (ℕ × Call) Reply
   as_made d = operation_with first_of d
 
-  as_operation : {calls : List CallRecord} {places : List ℕ} {now n : ℕ} (d : Done) (p : IsPlaced calls places now n d) → operation_by p.call d.call.first d.call.reply ≡ as_made d
-  as_operation d p = same_fields (operation_by p.call d.call.first d.call.reply) (as_made d) (sym p.asks.0) (pair_of (sym p.asks.1) (sym p.asks.2)) refl refl
+  as_operation : {calls : List CallRecord} {places : List ℕ} {now n : ℕ} (d : Done) (p : IsPlaced calls places now n d) → operation_by p.call d.call.first_index d.call.reply ≡ as_made d
+  as_operation d p = same_fields (operation_by p.call d.call.first_index d.call.reply) (as_made d) (sym p.asks.0) (pair_of (sym p.asks.1) (sym p.asks.2)) refl refl
     where
       pair_of : {n m : ℕ} {c d : Call} → n ≡ m → c ≡ d → ◌≡◌ {A = ℕ × Call} (n, c) (m, d)
       pair_of n c = λ k. (n k, c k)
@@ -339,10 +339,10 @@ module _ (cast : Cast) (steps : List Step) (w : MachineState) (kept : Keeps w) (
       s.over i a (omega arith) at some
 
   -- it is one of the history, with its response not before its reply
-  made : (q : ℕ) (d : Done) → slice_get list q ≡ Some d → (n : ℕ) × IsOperationAt whole n (as_made d) × (d.call.last ≤ n)
+  made : (q : ℕ) (d : Done) → slice_get list q ≡ Some d → (n : ℕ) × IsOperationAt whole n (as_made d) × (d.call.last_index ≤ n)
   made q d at =
       let p = u.are q d at in
-      let m = u.finished d.turn d.call.first p.call d.call.reply p.at p.place (over d.turn p.call p.at (subst (λ (o : Option Reply). IsSome o) (sym p.decided.1) refl)) p.decided.1 in
+      let m = u.completed d.turn d.call.first_index p.call d.call.reply p.at p.place (over d.turn p.call p.at (subst (λ (o : Option Reply). IsSome o) (sym p.decided.1) refl)) p.decided.1 in
       (m.0, subst (IsOperationAt whole m.0) (as_operation d p) m.1, m.2 q d at refl)
 
   -- calls that are one operation are one
@@ -350,7 +350,7 @@ module _ (cast : Cast) (steps : List Step) (w : MachineState) (kept : Keeps w) (
   one_turn i j x y at bt same =
       let first = ap (λ (o : Operation (ℕ × Call) Reply). o.invoked) same in (
         ap (λ (o : Operation (ℕ × Call) Reply). o.process) same,
-        one_number t.places t.rise x.turn y.turn x.call.first y.call.first (t.are i x at).place (t.are j y bt).place first,
+        one_number t.places t.rise x.turn y.turn x.call.first_index y.call.first_index (t.are i x at).place (t.are j y bt).place first,
       )
 
   -- an operation of the history has a place
@@ -361,10 +361,10 @@ module _ (cast : Cast) (steps : List Step) (w : MachineState) (kept : Keeps w) (
       let d = n.1 in
       let p = u.are n.0 d n.2 in
       let call : p.call ≡ r.call = same_Some p.call r.call (sym p.at ∙ (ap (slice_get s.closed) n.3 ∙ r.at)) in
-      let first : d.call.first ≡ r.place = same_Some d.call.first r.place (sym p.place ∙ (ap (slice_get u.places) n.3 ∙ r.invoked)) in
+      let first : d.call.first_index ≡ r.place = same_Some d.call.first_index r.place (sym p.place ∙ (ap (slice_get u.places) n.3 ∙ r.invoked)) in
       let reply : d.call.reply ≡ o.reply = same_Some d.call.reply o.reply (sym p.decided.1 ∙ (ap (λ (a : CallRecord). a.reply) call ∙ r.replied)) in
-      let same : operation_by p.call d.call.first d.call.reply ≡ operation_by r.call r.place o.reply
-      = ap (λ (a : CallRecord). operation_by a d.call.first d.call.reply) call
+      let same : operation_by p.call d.call.first_index d.call.reply ≡ operation_by r.call r.place o.reply
+      = ap (λ (a : CallRecord). operation_by a d.call.first_index d.call.reply) call
       ∙ (ap (λ (k : ℕ). operation_by r.call k d.call.reply) first ∙ ap (operation_by r.call r.place) reply) in
       (n.0, d, n.2, sym (as_operation d p) ∙ (same ∙ same_operation whole (operation_by r.call r.place o.reply) o r.made.0 is r.made.1))
 
@@ -394,7 +394,7 @@ module _ (cast : Cast) (steps : List Step) (w : MachineState) (kept : Keeps w) (
       let call : p.call ≡ a = same_Some p.call a (sym p.at ∙ (ap (slice_get w.calls) n.3 ∙ at)) in
       let point : a.point ≡ Some d.call.point = sym (ap (λ (z : CallRecord). z.point) call) ∙ p.decided.0 in
       let reply_is : d.call.reply ≡ reply = same_Some d.call.reply reply (sym p.decided.1 ∙ (ap (λ (z : CallRecord). z.reply) call ∙ replied)) in
-      let first : d.call.first ≡ invoked_at i = same_Some d.call.first (invoked_at i) (sym p.place ∙ (ap (slice_get t.places) n.3 ∙ place_is i a at)) in
+      let first : d.call.first_index ≡ invoked_at i = same_Some d.call.first_index (invoked_at i) (sym p.place ∙ (ap (slice_get t.places) n.3 ∙ place_is i a at)) in
       let e = decided h a (kept.explained i a at) d.call.point reply (point, replied) in
       let within = lies a d.call.point (length h) (length h) reply e.0 (inr refl) in
       record {
@@ -405,7 +405,7 @@ module _ (cast : Cast) (steps : List Step) (w : MachineState) (kept : Keeps w) (
             (λ ended is. let l = lies a d.call.point (length h) ended reply e.0 (inl is) in (l.1, l.2));
         place = n.0;
         is = to_map as_made list n.0 d n.2 ∙ ap (λ (o : Operation (ℕ × Call) Reply). Some o)
-            (sym (as_operation d p) ∙ (ap (λ (z : CallRecord). operation_by z d.call.first d.call.reply) call
+            (sym (as_operation d p) ∙ (ap (λ (z : CallRecord). operation_by z d.call.first_index d.call.reply) call
             ∙ (ap (λ (k : ℕ). operation_by a k d.call.reply) first ∙ ap (operation_by a (invoked_at i)) reply_is)));
         before = ap (state_after board_object []) (take-map as_made n.0 list)
             ∙ (leaves h first_of (take n.0 list) 0 (points_take list 0 n.0 t.points) (λ q x bt. explained q x (from_take list n.0 q x bt))
@@ -438,7 +438,7 @@ module _ (cast : Cast) (steps : List Step) (w : MachineState) (kept : Keeps w) (
     replied = λ i a at. has_replied w.history a a.point a.reply (kept.explained i a at);
     effect = effect;
     ended = λ i a reply at replied.
-        (λ some. (t.finished i (invoked_at i) a reply at (place_is i a at) some replied).1.0, has_ended i a reply at);
+        (λ some. (t.completed i (invoked_at i) a reply at (place_is i a at) some replied).1.0, has_ended i a reply at);
   }
 
 -- the calls of each run are linearizable

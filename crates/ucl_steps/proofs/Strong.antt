@@ -2,7 +2,7 @@
 -- reading comes before the report, and after it.
 use Rattle.ucl_steps.proofs.Common.{◌≡◌, inl, inr, ℕ, zero, suc, ◌+◌, ◌-◌, ◌<◌, ◌==◌, true, false, List, [], ◌∷◌, ◌++◌, length, take}
 use Rattle.ucl_steps.proofs.Common.{Some, None, slice_get, slice_index, refl, sym, ap, ◌∙◌, subst, arith, cases_lt, eq-eqb, length_push, none-some, append-nil}
-use Rattle.ucl_steps.proofs.Common.{same_Some, false≢true, may_next, at_below, at_beginning, begins_length, get_back, IsPrefix, FinishedCall, Entry, EventCall, board_of}
+use Rattle.ucl_steps.proofs.Common.{same_Some, false≢true, may_next, at_below, at_beginning, begins_length, get_back, IsPrefix, CompletedCall, Entry, EventCall, board_of}
 use Rattle.ucl_steps.proofs.Common.{entry_of, match_after, reading_of, Call, Event, Reading, Reply, Copied, NoCall, Collecting, Checking, accepts}
 use Rattle.std.specs.Prelude.{filter}
 use Rattle.std.proofs.Math.Seq.{take-append-add}
@@ -11,7 +11,7 @@ use Rattle.ucl_word.specs.Layout.{word_of}
 use Rattle.ucl_word.specs.Rules.{refusal_of}
 use Rattle.ucl_word.specs.declared.event.Kind.TheVariants.{KickOff}
 use Rattle.ucl_word.proofs.Sequences.{may_none}
-use Rattle.ucl_log.specs.Log.{Enlists, Log, Logged, MayBeTaken, history_of, logged_by, step_taken}
+use Rattle.ucl_log.specs.Log.{CountRaised, Log, LoggedStep, MayBeTaken, history_of, logged_by, step_taken}
 use Rattle.ucl_board.proofs.HistoryTheorems.{begins_through, entries_else}
 use Rattle.ucl_steps.proofs.CallEvents.{answered_at, operation_of}
 use Rattle.ucl_steps.proofs.CallHistories.{all_traced, at_rest}
@@ -21,13 +21,13 @@ use Rattle.ucl_board.proofs.HistoryTheorems.{versions}
 use Rattle.ucl_steps.proofs.Common.{MayFollow}
 use Rattle.ucl_steps.proofs.LogFacts.{logs_legal}
 use Rattle.ucl_steps.proofs.Longer.{EndsWith, GoesOnTo, IsEntered, IsOfProtocol, broken, checks, collect, report, second}
-use Rattle.ucl_steps.proofs.ObjectRuns.{adds_at, entries_by, entries_grow, reply_at}
+use Rattle.ucl_steps.proofs.LegalSequences.{adds_at, entries_by, entries_grow, reply_at}
 use Rattle.ucl_steps.specs.BoardObject.{board_object, object_reply}
 use Rattle.ucl_steps.specs.CallEvents.{call_events}
-use Rattle.ucl_steps.specs.ClientState.{ClientState, IsNextOfProtocol, client_at}
+use Rattle.ucl_steps.specs.LocalState.{LocalState, IsNextOfProtocol, local_at}
 use Rattle.ucl_steps.specs.Linearizability.{Response, Operation, IsOperation, Linearizes, is_pending}
-use Rattle.ucl_steps.specs.ClientState.{IsCall}
-use Rattle.ucl_steps.specs.Strong.{IsStrongOnLogs, LogsAreNotStrong}
+use Rattle.ucl_steps.specs.LocalState.{IsCompleted}
+use Rattle.ucl_steps.specs.Strong.{IsPrefixPreservingOnLogs, LogsAreNotStronglyLinearizable}
 
 -- if each element passes the test, a filtered list is the list
 filter_all : {X : Type 0} (xs : List X) → filter (λ (x : X). true) xs ≡ xs
@@ -44,21 +44,21 @@ record Reads (trunk : Log) (point : ℕ) : Type 0 where
   log : Log
   is : IsOfProtocol log
   begins : IsPrefix trunk log
-  call : FinishedCall
-  calls : (client_at 0 log).calls ≡ call ∷ []
+  call : CompletedCall
+  calls : (local_at 0 log).calls ≡ call ∷ []
   asks : call.call ≡ Reading
   version : version_in call.reply ≡ point
-  rests : (client_at 0 log).held ≡ NoCall
+  rests : (local_at 0 log).held ≡ NoCall
 
 -- a call that ends a reading after a log is one
-reads : (trunk log : Log) (reply : Reply) (point : ℕ) (history : List Entry) → IsPrefix trunk log → (client_at 0 log).calls ≡ [] → version_in reply ≡ point
+reads : (trunk log : Log) (reply : Reply) (point : ℕ) (history : List Entry) → IsPrefix trunk log → (local_at 0 log).calls ≡ [] → version_in reply ≡ point
     → EndsWith log 0 Reading reply history → Reads trunk point
 reads trunk log reply point history p none same e = record {
   log = e.later;
   is = e.is;
   begins = begins_through trunk log e.later p e.begins;
   call = e.call;
-  calls = e.calls ∙ ap (λ (l : List FinishedCall). l ++ e.call ∷ []) none;
+  calls = e.calls ∙ ap (λ (l : List CompletedCall). l ++ e.call ∷ []) none;
   asks = e.asks;
   version = ap version_in e.gets ∙ same;
   rests = e.holds;
@@ -68,8 +68,8 @@ reads trunk log reply point history p none same e = record {
 record Fork : Type 0 where
   trunk : Log
   is : IsOfProtocol trunk
-  call : FinishedCall
-  calls : (client_at 1 trunk).calls ≡ call ∷ []
+  call : CompletedCall
+  calls : (local_at 1 trunk).calls ≡ call ∷ []
   event : EventCall
   enters : call.call ≡ Event event
   accepted : accepts call.reply ≡ true
@@ -82,7 +82,7 @@ only_one x y zero at = same_Some x y at
 only_one x y (suc k) at = absurd (none-some y at)
 
 -- no function is a strong linearization of a fork
-module _ (f : Log → List (Operation (ℕ × Call) Reply)) (strong : IsStrongOnLogs (λ call. true) f) (fork : Fork) where
+module _ (f : Log → List (Operation (ℕ × Call) Reply)) (strong : IsPrefixPreservingOnLogs (λ call. true) f) (fork : Fork) where
   abbrev trunk : Log
   trunk = fork.trunk
 
@@ -100,24 +100,24 @@ module _ (f : Log → List (Operation (ℕ × Call) Reply)) (strong : IsStrongOn
   extends log is begins = subst (λ (l : List (Operation (ℕ × Call) Reply)). IsPrefix l (f log)) (filter_all (f trunk))
       (subst (IsPrefix (filter (λ (o : Operation (ℕ × Call) Reply). true) (f trunk))) (filter_all (f log)) (strong.extends trunk log (is.is_log, is.follows) begins))
 
-  -- each finished call has a place
-  placed : (log : Log) → IsOfProtocol log → (seat k : ℕ) (c : FinishedCall) → IsCall log seat k c → (j : ℕ) × (slice_get (f log) j ≡ Some (operation_of log seat c))
+  -- each completed call has a place
+  placed : (log : Log) → IsOfProtocol log → (seat k : ℕ) (c : CompletedCall) → IsCompleted log seat k c → (j : ℕ) × (slice_get (f log) j ≡ Some (operation_of log seat c))
   placed log is seat k c at =
       let l = linear log is in
-      let s = (all_traced log is.is_log is.follows).finished seat k c at in
+      let s = (all_traced log is.is_log is.follows).completed seat k c at in
       let n = l.linearization.each_once (operation_of log seat c) (longer (call_events log) l.responses (answered_at log c) (operation_of log seat c) s.0).0 in
       (n.0, n.1)
 
   -- the report has a place already when the reading is under way
   reported : (j : ℕ) × (slice_get (f trunk) j ≡ Some (operation_of trunk 1 fork.call))
-  reported = placed trunk fork.is 1 0 fork.call (ap (λ (l : List FinishedCall). slice_get l 0) fork.calls)
+  reported = placed trunk fork.is 1 0 fork.call (ap (λ (l : List CompletedCall). slice_get l 0) fork.calls)
 
   -- the reading with version 0 has a place
   abbrev reading : Operation (ℕ × Call) Reply
   reading = operation_of early 0 fork.early.call
 
   read : (i : ℕ) × (slice_get (f early) i ≡ Some reading)
-  read = placed early fork.early.is 0 0 fork.early.call (ap (λ (l : List FinishedCall). slice_get l 0) fork.early.calls)
+  read = placed early fork.early.is 0 0 fork.early.call (ap (λ (l : List CompletedCall). slice_get l 0) fork.early.calls)
 
   -- the accepted report is not before it
   not_before : reported.0 < read.0 → ⊥
@@ -143,12 +143,12 @@ module _ (f : Log → List (Operation (ℕ × Call) Reply)) (strong : IsStrongOn
         | inl less ↦
             let response = get_back es l.responses s.answered (Response 0 fork.early.call.reply) less s.response in
             let a = traces.responses s.answered 0 fork.early.call.reply response in
-            let t = (traces.finished 0 a.number a.call a.is).0 in
+            let t = (traces.completed 0 a.number a.call a.is).0 in
             let there = sym response ∙ (ap (slice_get es) (sym a.at ∙ sym t.1) ∙ t.0.response) in
             let reply : fork.early.call.reply ≡ a.call.reply
             = replied 0 0 fork.early.call.reply a.call.reply (same_Some (Response 0 fork.early.call.reply) (Response 0 a.call.reply) there) in
-            let call = only_one fork.late.call a.call a.number (ap (λ (c : List FinishedCall). slice_get c a.number) (sym fork.late.calls) ∙ a.is) in
-            let two : 2 ≡ 0 = sym fork.late.version ∙ (ap (λ (c : FinishedCall). version_in c.reply) call ∙ (ap version_in (sym reply) ∙ fork.early.version)) in
+            let call = only_one fork.late.call a.call a.number (ap (λ (c : List CompletedCall). slice_get c a.number) (sym fork.late.calls) ∙ a.is) in
+            let two : 2 ≡ 0 = sym fork.late.version ∙ (ap (λ (c : CompletedCall). version_in c.reply) call ∙ (ap version_in (sym reply) ∙ fork.early.version)) in
             cc two
         | inr not ↦
             let pending = l.well_formed s.answered (Response 0 fork.early.call.reply) s.response in
@@ -179,12 +179,12 @@ abbrev entered : ℕ → Entry
 entered game = entry_of 1 (kick_off game)
 
 -- the pass of seat 1 is enlisted
-abbrev enlistment : Logged
-enlistment = logged_by 1 (step_taken (Enlists 0) 0 0 None)
+abbrev enlistment : LoggedStep
+enlistment = logged_by 1 (step_taken (CountRaised 0) 0 0 None)
 
 enlisted : IsOfProtocol (enlistment ∷ [])
 enlisted = record {
-  is_log = may_next MayBeTaken [] enlistment (may_none MayBeTaken) (record { place = (refl, refl); there = (refl, omega arith) });
+  is_log = may_next MayBeTaken [] enlistment (may_none MayBeTaken) (record { index = refl; length = refl; there = (refl, omega arith) });
   follows = may_next IsNextOfProtocol [] enlistment (may_none IsNextOfProtocol) (record { next = (refl, refl); entry = refl });
 }
 
@@ -214,8 +214,8 @@ checked = second begun.later begun.is 0 (board_of []) 0 0 begun.holds (omega ari
 -- reporter 1 enters the kick-off of match 1
 kicked : IsEntered checked.later 1 1 (kick_off 1)
 kicked =
-    let own : client_at 1 checked.later ≡ client_at 1 (enlistment ∷ []) = checked.others 1 (λ e. omega arith) ∙ begun.others 1 (λ e. omega arith) in
-    report checked.later checked.is 1 1 (kick_off 1) (ap (λ (d : ClientState). d.held) own) (ap (λ (d : ClientState). d.number) own) (omega arith, omega arith) (omega arith, omega arith)
+    let own : local_at 1 checked.later ≡ local_at 1 (enlistment ∷ []) = checked.others 1 (λ e. omega arith) ∙ begun.others 1 (λ e. omega arith) in
+    report checked.later checked.is 1 1 (kick_off 1) (ap (λ (d : LocalState). d.held) own) (ap (λ (d : LocalState). d.number) own) (omega arith, omega arith) (omega arith, omega arith)
     (ap (λ (l : List Entry). refusal_of (match_after l 1) 0 KickOff) (checked.history ∙ begun.history) ∙ accepts_first)
 
 abbrev trunk_log : Log
@@ -225,16 +225,16 @@ trunk_history : history_of trunk_log ≡ entered 1 ∷ []
 trunk_history = kicked.ends.history_is ∙ ap (λ (l : List Entry). l ++ entered 1 ∷ []) (checked.history ∙ begun.history)
 
 -- the reader has not gone on meanwhile
-waits : client_at 0 trunk_log ≡ client_at 0 checked.later
+waits : local_at 0 trunk_log ≡ local_at 0 checked.later
 waits = kicked.ends.others 0 (λ e. omega arith)
 
-unread : (client_at 0 trunk_log).calls ≡ []
-unread = ap (λ (d : ClientState). d.calls) waits ∙ (checked.calls ∙ begun.calls)
+unread : (local_at 0 trunk_log).calls ≡ []
+unread = ap (λ (d : LocalState). d.calls) waits ∙ (checked.calls ∙ begun.calls)
 
 -- the reader goes on, and finds all other words again: version 0
 early_reading : Reads trunk_log 0
 early_reading = reads trunk_log trunk_log (Copied (reading_of (board_of []))) 0 (history_of trunk_log) ([], append-nil trunk_log) unread (versions [] (may_none MayFollow)).0
-    (checks 10 trunk_log kicked.ends.is 0 (board_of []) 1 0 (ap (λ (d : ClientState). d.held) waits ∙ checked.holds) refl
+    (checks 10 trunk_log kicked.ends.is 0 (board_of []) 1 0 (ap (λ (d : LocalState). d.held) waits ∙ checked.holds) refl
     (λ i low high. ap (λ (l : List Entry). word_of (match_after l (i + 1))) trunk_history
     ∙ (ap (λ (l : List MatchEntry). word_of (counted_match l)) (entries_else [] (entered 1) (i + 1) (λ e. omega arith))
     ∙ sym (board_get [] i high))))
@@ -242,19 +242,19 @@ early_reading = reads trunk_log trunk_log (Copied (reading_of (board_of []))) 0 
 -- or reporter 1 enters the kick-off of match 2 first
 kicked_again : IsEntered trunk_log 1 1 (kick_off 2)
 kicked_again =
-    let own : client_at 1 checked.later ≡ client_at 1 (enlistment ∷ []) = checked.others 1 (λ e. omega arith) ∙ begun.others 1 (λ e. omega arith) in
-    report trunk_log kicked.ends.is 1 1 (kick_off 2) kicked.ends.holds (kicked.ends.number ∙ ap (λ (d : ClientState). d.number) own) (omega arith, omega arith) (omega arith, omega arith)
+    let own : local_at 1 checked.later ≡ local_at 1 (enlistment ∷ []) = checked.others 1 (λ e. omega arith) ∙ begun.others 1 (λ e. omega arith) in
+    report trunk_log kicked.ends.is 1 1 (kick_off 2) kicked.ends.holds (kicked.ends.number ∙ ap (λ (d : LocalState). d.number) own) (omega arith, omega arith) (omega arith, omega arith)
     (ap (λ (l : List Entry). refusal_of (match_after l 2) 0 KickOff) trunk_history ∙ accepts_second)
 
 later_history : history_of kicked_again.ends.later ≡ entered 1 ∷ entered 2 ∷ []
 later_history = kicked_again.ends.history_is ∙ ap (λ (l : List Entry). l ++ entered 2 ∷ []) trunk_history
 
-waits_again : client_at 0 kicked_again.ends.later ≡ client_at 0 trunk_log
+waits_again : local_at 0 kicked_again.ends.later ≡ local_at 0 trunk_log
 waits_again = kicked_again.ends.others 0 (λ e. omega arith)
 
 -- then the reader finds another word at match 2, and begins anew
 anew : GoesOnTo kicked_again.ends.later 0 (Collecting [])
-anew = broken kicked_again.ends.later kicked_again.ends.is 0 (board_of []) 1 0 (ap (λ (d : ClientState). d.held) (waits_again ∙ waits) ∙ checked.holds) (omega arith)
+anew = broken kicked_again.ends.later kicked_again.ends.is 0 (board_of []) 1 0 (ap (λ (d : LocalState). d.held) (waits_again ∙ waits) ∙ checked.holds) (omega arith)
     (ap (λ (l : List Entry). word_of (match_after l 2) == slice_index (board_of []) 1) later_history
     ∙ (ap (λ (w : ℕ). word_of (match_after (entered 1 ∷ entered 2 ∷ []) 2) == w) (board_get [] 1 (omega arith)) ∙ differs))
 
@@ -268,7 +268,7 @@ late_reading =
     let c = collected_again in
     let p = begins_through trunk_log kicked_again.ends.later anew.later kicked_again.ends.begins anew.begins in
     reads trunk_log c.later (Copied (reading_of (board_of history))) 2 (history_of c.later) (begins_through trunk_log anew.later c.later p c.begins)
-    (c.calls ∙ (anew.calls ∙ (ap (λ (d : ClientState). d.calls) waits_again ∙ unread)))
+    (c.calls ∙ (anew.calls ∙ (ap (λ (d : LocalState). d.calls) waits_again ∙ unread)))
     ((versions history (logs_legal anew.later anew.is.is_log anew.is.follows)).0 ∙ ap length (anew.history ∙ later_history))
     (checks 11 c.later c.is 0 (board_of history) 0 (length history) c.holds refl
     (λ i low high. ap (λ (l : List Entry). word_of (match_after l (i + 1))) c.history ∙ sym (board_get history i high)))
@@ -276,13 +276,13 @@ late_reading =
 fork : Fork
 fork =
     let call = kicked.ends.call in
-    let none : (client_at 1 checked.later).calls ≡ []
-    = ap (λ (d : ClientState). d.calls) (checked.others 1 (λ e. omega arith) ∙ begun.others 1 (λ e. omega arith)) in
+    let none : (local_at 1 checked.later).calls ≡ []
+    = ap (λ (d : LocalState). d.calls) (checked.others 1 (λ e. omega arith) ∙ begun.others 1 (λ e. omega arith)) in
     record {
       trunk = trunk_log;
       is = kicked.ends.is;
       call = call;
-      calls = kicked.ends.calls ∙ ap (λ (l : List FinishedCall). l ++ call ∷ []) none;
+      calls = kicked.ends.calls ∙ ap (λ (l : List CompletedCall). l ++ call ∷ []) none;
       event = kick_off 1;
       enters = kicked.ends.asks;
       accepted = ap accepts kicked.ends.gets;
@@ -291,5 +291,5 @@ fork =
     }
 
 -- the protocol is not strongly linearizable
-pub not_strong : LogsAreNotStrong
+pub not_strong : LogsAreNotStronglyLinearizable
 not_strong f strong = contradiction f strong fork

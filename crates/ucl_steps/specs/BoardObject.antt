@@ -5,12 +5,12 @@
 use Rattle.std.specs.Prelude.{◌≡◌, ◌↔◌, ℕ, ◌<◌, List, [], All, length}
 use Rattle.ucl_board.specs.declared.entry.Entry.{Entry}
 use Rattle.ucl_board.specs.History.{IsLegal, board_of, sequential_reply, attempted, after_attempt}
-use Rattle.ucl_log.specs.Log.{Log, IsLog, history_of}
+use Rattle.ucl_log.specs.Log.{Log, IsWellFormedLog, history_of}
 use Rattle.ucl_steps.specs.declared.step.Call.{Call}
 use Rattle.ucl_steps.specs.declared.step.Call.TheVariants.{Event, Reading}
 use Rattle.ucl_steps.specs.declared.trace.Reply.{Reply}
 use Rattle.ucl_steps.specs.declared.trace.Reply.TheVariants.{Copied}
-use Rattle.ucl_steps.specs.ClientState.{FinishedCall, FollowsProtocol, IsCall}
+use Rattle.ucl_steps.specs.LocalState.{CompletedCall, FollowsProtocol, IsCompleted}
 use Rattle.ucl_steps.specs.Linearizability.{SequentialObject, HistoryEvent, Invocation, Response, Operation, IsOperation, IsLinearizable, state_after}
 use Rattle.ucl_steps.specs.Protocol.{report_reply, MayAsk}
 
@@ -46,12 +46,12 @@ pub record IsLinearizableTo (entries : List Entry) (history : List BoardEvent) :
   pub linearizable : IsLinearizable board_object history
   pub leaves : state_after board_object [] linearizable.0 ≡ entries
 
--- this finished call of the pass at a seat as an operation, invoked at this place
-abbrev pub operation_at : ℕ → FinishedCall → ℕ → Operation (ℕ × Call) Reply
+-- this completed call of the pass at a seat as an operation, invoked at this place
+abbrev pub operation_at : ℕ → CompletedCall → ℕ → Operation (ℕ × Call) Reply
 operation_at seat c place = record { process = seat; call = (c.number, c.call); invoked = place; reply = c.reply }
 
 -- there is a linearizable history of calls that may be asked, which leaves the entries of the log, a legal history. No response is added to
--- it, so no pending invocation accounts for an entry. Its operations are the finished calls of the log: one got its response before another
+-- it, so no pending invocation accounts for an entry. Its operations are the completed calls of the log: one got its response before another
 -- was invoked just if its last step comes before the other's first step in the log
 pub record HasLinearizableCalls (log : Log) : Type 0 where
   pub history : List BoardEvent
@@ -59,13 +59,13 @@ pub record HasLinearizableCalls (log : Log) : Type 0 where
   pub linearizable : IsLinearizableTo (history_of log) history
   pub legal : IsLegal (history_of log)
   pub none_added : linearizable.linearizable.1.responses ≡ []
-  pub invoked : ℕ → FinishedCall → ℕ
-  pub finished : (seat k : ℕ) (c : FinishedCall) → IsCall log seat k c → IsOperation history (operation_at seat c (invoked seat c))
+  pub invoked : ℕ → CompletedCall → ℕ
+  pub completed : (seat k : ℕ) (c : CompletedCall) → IsCompleted log seat k c → IsOperation history (operation_at seat c (invoked seat c))
   pub only : (o : Operation (ℕ × Call) Reply) → IsOperation history o
-      → (k : ℕ) × (c : FinishedCall) × IsCall log o.process k c × (operation_at o.process c (invoked o.process c) ≡ o)
-  pub order : (seat other k l : ℕ) (a b : FinishedCall) → (is_a : IsCall log seat k a) → IsCall log other l b
-      → ((finished seat k a is_a).answered < invoked other b) ↔ (a.last < b.first)
+      → (k : ℕ) × (c : CompletedCall) × IsCompleted log o.process k c × (operation_at o.process c (invoked o.process c) ≡ o)
+  pub order : (seat other k l : ℕ) (a b : CompletedCall) → (is_a : IsCompleted log seat k a) → IsCompleted log other l b
+      → ((completed seat k a is_a).answered < invoked other b) ↔ (a.last_index < b.first_index)
 
 -- each log of steps that the protocol lets come one after another has linearizable calls
 abbrev pub CallsAreLinearizable : Type 0
-CallsAreLinearizable = (log : Log) → IsLog log → FollowsProtocol log → HasLinearizableCalls log
+CallsAreLinearizable = (log : Log) → IsWellFormedLog log → FollowsProtocol log → HasLinearizableCalls log

@@ -4,7 +4,7 @@ pub mod Traces
 pub mod Theorems
 pub mod Running
 pub mod Protocol
-pub mod ClientState
+pub mod LocalState
 pub mod LogRuns
 pub mod Linearizability
 pub mod BoardObject

@@ -53,9 +53,9 @@ pub record IsOperation {Call Reply : Type 0} (history : List (HistoryEvent Call 
       → process_of event ≢ o.process
 
 -- these operations, made one after the other from this state on, have the replies of the object
-abbrev pub IsObjectRun : {State Call Reply : Type 0} → SequentialObject State Call Reply → State → List (Operation Call Reply) → Type 0
-IsObjectRun object state [] = Unit {0}
-IsObjectRun object state (o ∷ rest) = (o.reply ≡ object.reply state o.call) × IsObjectRun object (object.after state o.call) rest
+abbrev pub IsLegalSequence : {State Call Reply : Type 0} → SequentialObject State Call Reply → State → List (Operation Call Reply) → Type 0
+IsLegalSequence object state [] = Unit {0}
+IsLegalSequence object state (o ∷ rest) = (o.reply ≡ object.reply state o.call) × IsLegalSequence object (object.after state o.call) rest
 
 -- the state of the object after these operations, made so from this state on
 abbrev pub state_after : {State Call Reply : Type 0} → SequentialObject State Call Reply → State → List (Operation Call Reply) → State
@@ -66,7 +66,7 @@ state_after object state (o ∷ rest) = state_after object (object.after state o
 -- got its response before another was invoked comes before it
 pub record IsLinearization {State Call Reply : Type 0} (object : SequentialObject State Call Reply)
     (history : List (HistoryEvent Call Reply)) (sequence : List (Operation Call Reply)) : Type 0 where
-  pub legal : IsObjectRun object object.initial sequence
+  pub legal : IsLegalSequence object object.initial sequence
   pub operations : (i : ℕ) (o : Operation Call Reply) → slice_get sequence i ≡ Some o → IsOperation history o
   pub each_once : (o : Operation Call Reply) → IsOperation history o
       → (i : ℕ) × (slice_get sequence i ≡ Some o) × ((j : ℕ) → slice_get sequence j ≡ Some o → j ≡ i)
@@ -89,7 +89,7 @@ IsLinearizable {State} {Call} {Reply} object history = (sequence : List (Operati
 -- strong linearizability of executions, which are lists of steps that may be taken, each with a history of calls: `linearize` gives each
 -- execution a sequence that linearizes its history, and a longer one a sequence of which the calls that pass the test `fixed` begin with
 -- those of the shorter, in their order. If all calls are fixed, this is strong linearizability (Golab, Higham and Woelfel 2011)
-pub record IsStrong {Step State Call Reply : Type 0} (MayTake : List Step → Type 0) (events : List Step → List (HistoryEvent Call Reply))
+pub record IsPrefixPreserving {Step State Call Reply : Type 0} (MayTake : List Step → Type 0) (events : List Step → List (HistoryEvent Call Reply))
     (object : SequentialObject State Call Reply) (fixed : Call → Bool) (linearize : List Step → List (Operation Call Reply)) : Type 0 where
   pub linearizes : (steps : List Step) → MayTake steps → Linearizes object (events steps) (linearize steps)
   pub extends : (steps later : List Step) → MayTake later → IsPrefix steps later

@@ -10,8 +10,8 @@ use Rattle.ucl_steps.specs.declared.step.Step.{Step}
 use Rattle.ucl_steps.specs.declared.step.Step.TheVariants as machine
 use Rattle.ucl_steps.specs.Protocol.{Pending, NoCall, Outcome, GoesOn, Answers}
 use Rattle.ucl_steps.specs.Machine.{CallerState, MachineState, Idle, Within, initial_state, held_by, after_steps}
-use Rattle.ucl_log.specs.Log.{AccessKind, Look, Swap, First, Second, Target, Match, Logged, Log, history_of, IsLog}
-use Rattle.ucl_steps.specs.ClientState.{client_at, call_asked, outcome, FollowsProtocol}
+use Rattle.ucl_log.specs.Log.{AccessKind, Look, Swap, First, Second, Action, Match, LoggedStep, Log, history_of, IsWellFormedLog}
+use Rattle.ucl_steps.specs.LocalState.{local_at, call_asked, outcome, FollowsProtocol}
 
 -- the caller of the machine that stands for the pass with this seat and number: the reader of its seat until the pass is enlisted, then the
 -- reporter of its number
@@ -40,20 +40,20 @@ abbrev pub ends_by : Outcome → Caller → List Step
 ends_by (Answers reply) caller = machine.End caller ∷ []
 ends_by (GoesOn held) caller = []
 
--- the machine's steps for a step on this target by a pass with this caller and number, which held this, when there were `now` entries: the
--- same step, after the Begin of its call if it is the call's first, before the End if it is the last; none if not on a match word
-abbrev pub steps_on : Caller → ℕ → Pending → Target → ℕ → List Step
-steps_on caller number held (Match kind game found) now =
+-- the machine's steps for this action of a pass with this caller and number, which held this, when the history had this length: the same step,
+-- after the Begin of its call if it is the call's first, before the End if it is the last; none if the action is no access
+abbrev pub steps_on : Caller → ℕ → Pending → Action → ℕ → List Step
+steps_on caller number held (Match kind game found) length =
     begins_by held caller (call_asked held (Match kind game found))
-    ++ step_by_kind kind caller ∷ ends_by (outcome number held (Match kind game found) now) caller
-steps_on caller number held target now = []
+    ++ step_by_kind kind caller ∷ ends_by (outcome number held (Match kind game found) length) caller
+steps_on caller number held action length = []
 
 -- the machine's steps for the second part of a log, if `before` is the first part
 abbrev pub steps_after : Log → Log → List Step
 steps_after before [] = []
 steps_after before (logged ∷ log) =
-    let client = client_at logged.seat before in
-    steps_on (caller_for logged.seat client.number) client.number client.held logged.step.target logged.step.at
+    let local = local_at logged.seat before in
+    steps_on (caller_for logged.seat local.number) local.number local.held logged.step.action logged.step.length
     ++ steps_after (before ++ logged ∷ []) log
 
 -- the machine's steps for a whole log
@@ -77,8 +77,8 @@ pub record LeadsToLog (readers : ℕ) (log : Log) : Type 0 where
   pub history_is : state.history ≡ history_of log
   pub words_are : state.words ≡ board_of (history_of log)
   pub each : (seat : ℕ) → seat < readers
-      → HoldsAs (client_at seat log).held (held_by state.callers (caller_for seat (client_at seat log).number))
+      → HoldsAs (local_at seat log).held (held_by state.callers (caller_for seat (local_at seat log).number))
 
 -- each log that follows the protocol, with seats below `readers`, is a run of the machine with so many readers
 abbrev pub LogsAreRuns : Type 0
-LogsAreRuns = (readers : ℕ) (log : Log) → IsLog log → FollowsProtocol log → All (λ (logged : Logged). logged.seat < readers) log → LeadsToLog readers log
+LogsAreRuns = (readers : ℕ) (log : Log) → IsWellFormedLog log → FollowsProtocol log → All (λ (logged : LoggedStep). logged.seat < readers) log → LeadsToLog readers log

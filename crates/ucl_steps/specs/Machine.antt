@@ -19,7 +19,7 @@ use Rattle.ucl_steps.specs.declared.step.Step.{Step}
 use Rattle.ucl_steps.specs.declared.step.Step.TheVariants.{Begin, Look, Swap, First, Second, End}
 use Rattle.ucl_steps.specs.declared.trace.Reply.{Reply}
 use Rattle.ucl_steps.specs.declared.trace.CallRecord.{CallRecord}
-use Rattle.ucl_steps.specs.Protocol.{Pending, Holding, Collecting, Checking, Outcome, GoesOn, Answers, looked, swapped, loaded, compared}
+use Rattle.ucl_steps.specs.Protocol.{Pending, Holding, Collecting, Checking, Outcome, GoesOn, Answers, look_outcome, swap_outcome, first_outcome, second_outcome}
 
 -- What a caller of the machine holds between two of its steps; `call` is the place of its call in the list of all calls. Idle: no call.
 -- Wanting: an event to enter. Within: what a call under way keeps (Protocol.antt). Answered: a call that has its reply and has not ended.
@@ -119,22 +119,22 @@ stored number event new state =
 -- the state after a Look (a report's load) by reporter `number` in call `call`; a refusal gets the length of the history as its point
 abbrev pub state_after_look : ℕ → ℕ → EventCall → MachineState → MachineState
 state_after_look number call event state =
-    after_outcome (Reporter number) call (length state.history) (looked number event (word_at state.words event.game)) state
+    after_outcome (Reporter number) call (length state.history) (look_outcome number event (word_at state.words event.game)) state
 
 -- the state after a Swap of `old` for `new` by reporter `number` in call `call`; the length of the history becomes the call's point
 abbrev pub state_after_swap : ℕ → ℕ → EventCall → ℕ → ℕ → MachineState → MachineState
 state_after_swap number call event old new state = let found = word_at state.words event.game in
-    after_outcome (Reporter number) call (length state.history) (swapped old new found) (if found == old then stored number event new state else state)
+    after_outcome (Reporter number) call (length state.history) (swap_outcome old new found) (if found == old then stored number event new state else state)
 
 -- the state after a First, which loads the next word of a reading's first collect, in call `call` of this caller, after these words
 abbrev pub state_after_first : Caller → ℕ → List ℕ → MachineState → MachineState
 state_after_first caller call words state = let now = length state.history in
-    after_outcome caller call now (loaded words (slice_index state.words (length words)) now) state
+    after_outcome caller call now (first_outcome words (slice_index state.words (length words)) now) state
 
 -- the state after a Second, the next load of a reading's second collect, after `checked` equal words; `point` was set at the first's end
 abbrev pub state_after_second : Caller → ℕ → List ℕ → ℕ → ℕ → MachineState → MachineState
 state_after_second caller call words checked point state =
-    after_outcome caller call point (compared words checked point (slice_index state.words checked)) state
+    after_outcome caller call point (second_outcome words checked point (slice_index state.words checked)) state
 
 -- the state after this caller ended its call, at place `call` among the calls: the caller is idle, and the call's record has its end
 abbrev pub after_end : Caller → ℕ → MachineState → MachineState

@@ -18,7 +18,8 @@ use Rattle.ucl_steps.specs.declared.trace.Reply.TheVariants.{Accepted, Refused, 
 
 -- What a caller holds between two steps on match words. NoCall: nothing, since no call is under way. Holding: the event of a report, the
 -- word that it loaded, and the one that is to take its place. Collecting: the words that a reading's first collect has loaded so far.
--- Checking: all twelve, how many the second collect has found again, and how many entries there were at the twelfth load of the first.
+-- Checking: all twelve, how many the second collect has found again, and the reading's linearization point: the length of the history at the
+-- twelfth load of the first.
 pub data Pending : Type 0 where
   NoCall : Pending
   Holding : (e : EventCall) (old new : ℕ) → Pending
@@ -41,30 +42,30 @@ abbrev pub by_rules : ℕ → EventCall → ℕ → Option Refusal → Outcome
 by_rules number event found (Some refusal) = Answers (Refused refusal)
 by_rules number event found None = GoesOn (Holding event found (word_of (after (record_at found) number event.kind)))
 
--- what comes of a Look, the load of a report, by the reporter with this number, if it finds this word: a refusal, or what is to be swapped
-abbrev pub looked : ℕ → EventCall → ℕ → Outcome
-looked number event found = by_rules number event found (refusal_of (record_at found) event.expected event.kind)
+-- the outcome of a Look, the load of a report, by the reporter with this number, if it finds this word: a refusal, or what is to be swapped
+abbrev pub look_outcome : ℕ → EventCall → ℕ → Outcome
+look_outcome number event found = by_rules number event found (refusal_of (record_at found) event.expected event.kind)
 
--- what comes of a Swap, the compare-and-exchange of a report: if it finds the old word, which the Look loaded, the event is accepted with
+-- the outcome of a Swap, the compare-and-exchange of a report: if it finds the old word, which the Look loaded, the event is accepted with
 -- the number of the new word; else the event is stale, with the number of the word found
-abbrev pub swapped : ℕ → ℕ → ℕ → Outcome
-swapped old new found = Answers (if found == old
+abbrev pub swap_outcome : ℕ → ℕ → ℕ → Outcome
+swap_outcome old new found = Answers (if found == old
     then Accepted (record { number = (record_at new).number })
     else Refused (Stale (record_at found).number))
 
--- what a reading holds that has loaded these words in its first collect: after the twelfth the second collect begins, and the number
--- of entries at that load, `now`, is kept as the reading's linearization point
+-- what a reading holds that has loaded these words in its first collect: after the twelfth the second collect begins, and the length of the
+-- history at that load is kept as the reading's linearization point
 abbrev pub collected : List ℕ → ℕ → Pending
-collected words now = if length words == 12 then Checking words 0 now else Collecting words
+collected words point = if length words == 12 then Checking words 0 point else Collecting words
 
--- what comes of a First, which loads the next word of a reading's first collect after these; the history has `now` entries then
-abbrev pub loaded : List ℕ → ℕ → ℕ → Outcome
-loaded words found now = GoesOn (collected (words ++ found ∷ []) now)
+-- the outcome of a First, which loads the next word of a reading's first collect after these; the history has the length `point` then
+abbrev pub first_outcome : List ℕ → ℕ → ℕ → Outcome
+first_outcome words found point = GoesOn (collected (words ++ found ∷ []) point)
 
--- what comes of a Second, a load of a reading's second collect, after `checked` equal words: if it finds the word of the first collect,
+-- the outcome of a Second, a load of a reading's second collect, after `checked` equal words: if it finds the word of the first collect,
 -- the next word comes, and after the twelfth the words are the reply, with their version; else the reading begins anew
-abbrev pub compared : List ℕ → ℕ → ℕ → ℕ → Outcome
-compared words checked point found =
+abbrev pub second_outcome : List ℕ → ℕ → ℕ → ℕ → Outcome
+second_outcome words checked point found =
     if found == slice_index words checked
     then (if checked == 11 then Answers (Copied (reading_of words)) else GoesOn (Checking words (checked + 1) point))
     else GoesOn (Collecting [])

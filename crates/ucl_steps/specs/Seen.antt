@@ -11,7 +11,7 @@ use Rattle.ucl_steps.specs.declared.step.Call.TheVariants.{Event, Reading}
 use Rattle.ucl_steps.specs.declared.trace.Reply.{Reply}
 use Rattle.ucl_steps.specs.declared.trace.Reply.TheVariants.{Accepted, Copied}
 use Rattle.ucl_steps.specs.BoardObject.{BoardEvent, MayInvoke, HasLinearizableCalls, board_object}
-use Rattle.ucl_steps.specs.ClientState.{FinishedCall, IsCall}
+use Rattle.ucl_steps.specs.LocalState.{CompletedCall, IsCompleted}
 use Rattle.ucl_steps.specs.Linearizability.{Invocation, Response, Operation, IsOperation, IsLinearizable}
 
 -- the reply `later` has seen an earlier call with this reply: a reading shows an accepted event, since its match has the event number that
@@ -38,10 +38,10 @@ pub record ReadsWhole (history : List BoardEvent) : Type 0 where
 abbrev pub LinearizableReadsWhole : Type 0
 LinearizableReadsWhole = (history : List BoardEvent) → All MayInvoke history → IsLinearizable board_object history → ReadsWhole history
 
--- among the finished calls of a log no reading is stale, and none is torn, whichever passes they are of
+-- among the completed calls of a log no reading is stale, and none is torn, whichever passes they are of
 pub record CallsReadWhole (log : Log) : Type 0 where
-  pub fresh : (i j k l : ℕ) (a b : FinishedCall) → IsCall log i k a → IsCall log j l b → a.last < b.first → HasSeen a.call a.reply b.reply
-  pub whole : (i j h k l m : ℕ) (a b c : FinishedCall) → IsCall log i k a → IsCall log j l b → IsCall log h m c → a.last < b.first
+  pub fresh : (i j k l : ℕ) (a b : CompletedCall) → IsCompleted log i k a → IsCompleted log j l b → a.last_index < b.first_index → HasSeen a.call a.reply b.reply
+  pub whole : (i j h k l m : ℕ) (a b c : CompletedCall) → IsCompleted log i k a → IsCompleted log j l b → IsCompleted log h m c → a.last_index < b.first_index
       → accepts b.reply ≡ true → HasSeen b.call b.reply c.reply → HasSeen a.call a.reply c.reply
 
 -- so it is in each log, and so on each board, that has linearizable calls

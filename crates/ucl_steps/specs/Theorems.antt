@@ -1,5 +1,5 @@
 -- Theorems of every run of the machine, and of the accesses of a call: its loads and compare-and-exchanges of match words.
--- `low` and `high` are lengths of the history before a call and after it, and `at` is that at an access.
+-- `low` and `high` are lengths of the history before a call and after it.
 use Rattle.std.specs.Prelude.{◌≡◌, ℕ, ◌+◌, ◌*◌, ◌<◌, ◌≤◌, List, length, take, Some, Result, slice_get}
 use Rattle.std.specs.List.{AllByRecursion}
 use Rattle.ucl_word.specs.declared.event.EventCall.{EventCall}
@@ -32,7 +32,7 @@ WordsAreOfTheHistory = (cast : Cast) (steps : List Step) (state : MachineState) 
 
 -- the last access of an unclean try, which found another word, comes when the history is longer than at the first load of that match
 abbrev pub UncleanTriesSeeMore : Type 0
-UncleanTriesSeeMore = (history : List Entry) (low high : ℕ) (ms : List Access) → Follows history low ms high → (try : IsUnclean ms) (first : Access) → slice_get try.firsts (length try.broken.equal) ≡ Some first → first.at < try.broken.last.at
+UncleanTriesSeeMore = (history : List Entry) (low high : ℕ) (ms : List Access) → Follows history low ms high → (try : IsUnclean ms) (first : Access) → slice_get try.firsts (length try.broken.equal) ≡ Some first → first.length < try.broken.last.length
 
 -- if accesses are made while a history grows from `low` to `high` entries, no more tries of readings find a word changed than entries came
 abbrev pub UncleanTriesAreFew : Type 0

@@ -1,5 +1,5 @@
 -- The trail of a pass: its loads and compare-and-exchanges of match words, the accesses, oldest first; and which of them each call leaves in it.
--- An access has the word that it found, its place among all steps on the board, and `at`, the length of the history just before it.
+-- An access has the word that it found, its index among all steps on the board, and the length of the history just before it.
 use Rattle.std.specs.Prelude.{◌≡◌, ◌≢◌, ℕ, ◌+◌, ◌-◌, ◌*◌, ◌<◌, ◌≤◌, ◌⊎◌, List, [], ◌∷◌, ◌++◌, take, length, Some, Result, Ok, Err, IsOk, slice_get, slice_index}
 use Rattle.std.specs.List.{AllByRecursion}
 use Rattle.ucl_word.specs.declared.event.EventCall.{EventCall}
@@ -20,26 +20,26 @@ Does kind game step = (step.kind ≡ kind) × (step.game ≡ game)
 
 -- the word that an access found is that of its match after the entries that the history had then
 abbrev pub IsFoundIn : List Entry → Access → Type 0
-IsFoundIn history step = step.found ≡ word_of (match_after (take step.at history) step.game)
+IsFoundIn history step = step.found ≡ word_of (match_after (take step.length history) step.game)
 
--- accesses follow a history from length low of it to length high: the lengths `at` never fall, and each found the word that was there
+-- accesses follow a history from length low of it to length high: their lengths never fall, and each found the word that was there
 abbrev pub Follows : List Entry → ℕ → List Access → ℕ → Type 0
 Follows history low [] high = low ≤ high
-Follows history low (step ∷ steps) high = (low ≤ step.at) × IsFoundIn history step × Follows history step.at steps high
+Follows history low (step ∷ steps) high = (low ≤ step.length) × IsFoundIn history step × Follows history step.length steps high
 
 -- the accesses of a report that was refused at its Look: this alone, which found a word on which the rules refuse the event with this
 -- refusal, when there were `now` entries
 pub record LookRefused (call : EventCall) (refusal : Refusal) (ms : List Access) (now : ℕ) : Type 0 where
   pub looked : ℕ
-  pub place : ℕ
-  pub accesses : ms ≡ access (Look call) call.game looked place now ∷ []
+  pub index : ℕ
+  pub accesses : ms ≡ access (Look call) call.game looked index now ∷ []
   pub answer : reply_of (record_at looked) call ≡ Err refusal
 
 -- a report's Look, on whose word `looked` the rules accept the event, and its Swap, which found `found` at `now` entries and stored nothing
 pub record StoredNothing (call : EventCall) (looked found : ℕ) (ms : List Access) (now : ℕ) : Type 0 where
-  pub at : ℕ
-  pub places : ℕ × ℕ
-  pub accesses : ms ≡ access (Look call) call.game looked places.0 at ∷ access Swap call.game found places.1 now ∷ []
+  pub length : ℕ
+  pub indices : ℕ × ℕ
+  pub accesses : ms ≡ access (Look call) call.game looked indices.0 length ∷ access Swap call.game found indices.1 now ∷ []
   pub may : IsOk (reply_of (record_at looked) call)
 
 -- a report whose Swap found another word than its Look: it is refused as stale, with the number of the word that the Swap found
@@ -54,10 +54,10 @@ pub record SwapMissed (call : EventCall) (refusal : Refusal) (ms : List Access) 
 -- `now` entries that there are then
 pub record SwapWon (call : EventCall) (reply : Accepted) (ms : List Access) (now : ℕ) : Type 0 where
   pub looked : ℕ
-  pub at : ℕ
+  pub length : ℕ
   pub before : ℕ
-  pub places : ℕ × ℕ
-  pub accesses : ms ≡ access (Look call) call.game looked places.0 at ∷ access Swap call.game looked places.1 before ∷ []
+  pub indices : ℕ × ℕ
+  pub accesses : ms ≡ access (Look call) call.game looked indices.0 length ∷ access Swap call.game looked indices.1 before ∷ []
   pub answer : reply_of (record_at looked) call ≡ Ok reply
   pub last : before + 1 ≡ now
 
@@ -113,7 +113,7 @@ pub record IsClean (reading : Reading) (ms : List Access) : Type 0 where
   pub twelve : (length reading.board ≡ 12) × (length firsts ≡ 12) × (length seconds ≡ 12)
   pub collected : IsCollect First reading.board firsts
   pub again : IsCollect Second reading.board seconds
-  pub version : (m : Access) → slice_get firsts 11 ≡ Some m → m.at ≡ reading.version
+  pub version : (m : Access) → slice_get firsts 11 ≡ Some m → m.length ≡ reading.version
 
 -- the accesses of several tries, one try after the other
 abbrev pub accesses_of : List (List Access) → List Access

@@ -1,13 +1,13 @@
 //! Theorems of every list of steps of the machine, and of every log: the steps that passes took on a shared board. The functions do
 //! nothing: each is there for its contract.
 
-ghost use Rattle.ucl_log.specs.Log.{Log, IsLog, IsLegalRule, LogFacts};
-ghost use Rattle.ucl_steps.specs.ClientState.{FollowsProtocol, IsNextOfProtocol};
+ghost use Rattle.ucl_log.specs.Log.{Log, IsWellFormedLog, IsLegalRule, LogFacts};
+ghost use Rattle.ucl_steps.specs.LocalState.{FollowsProtocol, IsNextOfProtocol};
 ghost use Rattle.ucl_steps.specs.Theorems.{RunsAreLinearizable, RunsReadWhole, WordsAreOfTheHistory, UncleanTriesSeeMore, UncleanTriesAreFew, ReadingsAreSnapshots, ReportsAreSequential};
 ghost use Rattle.ucl_steps.specs.BoardObject.{CallsAreLinearizable};
 ghost use Rattle.ucl_steps.specs.Seen.{LinearizableCallsReadWhole, LinearizableReadsWhole, StaleAndTornAreRefused};
 ghost use Rattle.ucl_steps.specs.LogRuns.{LogsAreRuns, LongerLogsAreLongerRuns};
-ghost use Rattle.ucl_steps.specs.Strong.{LogsAreNotStrong, LogsAreWriteStrong};
+ghost use Rattle.ucl_steps.specs.Strong.{LogsAreNotStronglyLinearizable, LogsAreWriteStronglyLinearizable};
 
 /// States that every list of enabled steps of the machine, in any order and cut anywhere, has a linearizable history of calls (Herlihy and
 /// Wing), of which the invocations are the steps that begin calls, and the responses those that end them. The calls that the machine records
@@ -78,7 +78,7 @@ pub fn stale_and_torn_readings_are_refused()
 /// pass, and that the entries with a number are those that its pass added. Each step of such a log keeps the history legal, and gives a
 /// number only to a pass without one.
 pub fn logs_have_facts()
-    ensures facts { (log : Log) → IsLog log → FollowsProtocol log → LogFacts log }
+    ensures facts { (log : Log) → IsWellFormedLog log → FollowsProtocol log → LogFacts log }
     ensures legal { IsLegalRule IsNextOfProtocol }
 {}
 
@@ -96,6 +96,6 @@ pub fn logs_are_runs()
 /// linearization, in which a longer log leaves all reports as they are, and adds its own after them. But readings move: no function
 /// gives each log a linearization that a longer log only extends, which is strong linearizability (Golab, Higham and Woelfel).
 pub fn only_reports_are_fixed()
-    ensures reports { LogsAreWriteStrong }
-    ensures readings { LogsAreNotStrong }
+    ensures reports { LogsAreWriteStronglyLinearizable }
+    ensures readings { LogsAreNotStronglyLinearizable }
 {}

@@ -1,6 +1,6 @@
 -- One history for all callers, and the screens of what readers read: of every run of the protocol's machine, and of every word board.
--- A call's point is how many entries of the history come before it takes effect.
-use Rattle.std.specs.Prelude.{◌≡◌, ℕ, ◌<◌, ◌≤◌, ◌++◌, true, List, All, length, take, drop, flat_map, Some}
+-- A call's linearization point is the length of the history when it takes effect.
+use Rattle.std.specs.Prelude.{◌≡◌, ℕ, ◌<◌, ◌≤◌, ◌++◌, true, List, All, length, take, flat_map, Some}
 use mathlib.Core.List.{IsPrefix}
 use mathlib.Core.Option.{some}
 use lib.ListN.{get_elem?}
@@ -16,8 +16,8 @@ use Rattle.ucl_steps.specs.declared.step.Cast.{Cast}
 use Rattle.ucl_steps.specs.declared.step.Step.{Step}
 use Rattle.ucl_steps.specs.Machine.{MachineState, initial_state, after_steps}
 use Rattle.ucl_steps.specs.RunHistory.{IsLinearizableRun}
-use Rattle.ucl_log.specs.Log.{Logged, Log, IsLog, taken_by, history_of}
-use Rattle.ucl_steps.specs.ClientState.{FinishedCall, FollowsProtocol, IsCall, client_at}
+use Rattle.ucl_log.specs.Log.{LoggedStep, Log, IsWellFormedLog, taken_by, history_of, enlisted_by}
+use Rattle.ucl_steps.specs.LocalState.{CompletedCall, FollowsProtocol, IsCompleted, local_at}
 use Rattle.ucl_steps.specs.BoardObject.{HasLinearizableCalls}
 use Rattle.ucl_steps.specs.Seen.{HasSeen, accepts}
 use Rattle.ucl_live_board.specs.declared.view.View.{View}
@@ -38,7 +38,7 @@ ScreensShowTheHistory =
 
 -- Every run of the machine has one history, for any numbers of reporters and readers (`cast`), with calls left unfinished anywhere: its calls
 -- are linearizable. A Begin invokes a call, and its End is the response; of calls without an End, those that have their replies count. Each
--- takes effect at the point that is recorded of it.
+-- takes effect at the linearization point that is recorded of it.
 abbrev pub EveryRunHasOneHistory : Type 0
 EveryRunHasOneHistory = (cast : Cast) (steps : List Step) (state : MachineState) → after_steps steps (initial_state cast) ≡ Some state
     → IsLinearizableRun cast steps state.history state.calls
@@ -48,20 +48,20 @@ pub record IsOfLog (log : Log) (seat : ℕ) (pass : View) : Type 0 where
   pub knows : IsPrefix pass.log log
   pub own : pass.own ≡ taken_by seat log
 
--- A word board, between two steps of any threads, has one history. There is one log of all steps, which follows the protocol, and whose
--- history has the words that are there. Each pass knows a prefix of it, which has its own steps; no step is of a seat without a pass, and
--- no two reporters have one number (a reader has 0). The calls of the log are linearizable: run one after the other on the board of one
--- thread, in some order that is that of real time, they give the replies that they got.
+-- A word board, between two steps of any threads, has one history. There is one well-formed log of all steps, which follows the protocol and
+-- gives all words: the number of enlisted reporters and the board of its history. Each pass knows a prefix of the log, which has its own
+-- steps; no step is of a seat without a pass, and no two reporters have one number (a reader has 0). The calls of the log are linearizable:
+-- run one after the other on the board of one thread, in some order that is that of real time, they give the replies that they got.
 pub record IsOneHistory (state : State Entry View) : Type 0 where
   pub log : Log
-  pub is_log : IsLog log
+  pub is_log : IsWellFormedLog log
   pub follows : FollowsProtocol log
-  pub words : board_of (history_of log) ≡ drop 1 state.words
+  pub words : state.words ≡ enlisted_by log ∷ board_of (history_of log)
   pub each : (seat : ℕ) (pass : View)
       → get_elem? state.views seat ≡ some pass → IsOfLog log seat pass
-  pub only : All (λ (x : Logged). x.seat < length state.views) log
+  pub only : All (λ (x : LoggedStep). x.seat < length state.views) log
   pub apart : (i j : ℕ)
-      → 0 < (client_at i log).number → (client_at i log).number ≡ (client_at j log).number → i ≡ j
+      → 0 < (local_at i log).number → (local_at i log).number ≡ (local_at j log).number → i ≡ j
   pub linearizable : HasLinearizableCalls log
 
 -- Each state that satisfies `rule`, the invariant of the board, has one history.
@@ -70,31 +70,31 @@ BoardsHaveOneHistory rule = (state : State Entry View) → rule state → IsOneH
 
 -- The call of the pass at a seat began in this state or later. If the pass was there, the call's first step came after all that the pass
 -- knew then. A pass that was not there, since it was split off later, began all its calls later.
-abbrev pub BeganSince : State Entry View → ℕ → FinishedCall → Type 0
-BeganSince state seat c = (pass : View) → get_elem? state.views seat ≡ some pass → length pass.log ≤ c.first
+abbrev pub BeganSince : State Entry View → ℕ → CompletedCall → Type 0
+BeganSince state seat c = (pass : View) → get_elem? state.views seat ≡ some pass → length pass.log ≤ c.first_index
 
--- In real time call a was over before call b began: a had finished by a state, with this log, and b began in that state or later, and had
--- finished by a later one. The passes, and the places of the calls among theirs, may be any.
-pub record WasOverBefore (state : State Entry View) (log later : Log) (a b : FinishedCall) : Type 0 where
+-- In real time call a was over before call b began: a was completed in a state, with this log, and b began in that state or later, and was
+-- completed in a later one. The passes, and the numbers of the calls among theirs, may be any.
+pub record WasOverBefore (state : State Entry View) (log later : Log) (a b : CompletedCall) : Type 0 where
   pub of_a : ℕ × ℕ
   pub of_b : ℕ × ℕ
-  pub finished : IsCall log of_a.0 of_a.1 a
-  pub finishes : IsCall later of_b.0 of_b.1 b
+  pub completed : IsCompleted log of_a.0 of_a.1 a
+  pub completes : IsCompleted later of_b.0 of_b.1 b
   pub began : BeganSince state of_b.0 b
 
--- The log of a state is a prefix of the log of a later one, and each call that had finished is the same call there. If in real time call a
+-- The log of a state is a prefix of the log of a later one, and each completed call is the same call there. If in real time call a
 -- was over before call b began, the last step of a comes before the first step of b in the log, and b has seen a: no reading is stale. And
 -- none is torn: if b was accepted, each call of the later log that has seen b has seen a.
 pub record LogGoesOn (state : State Entry View) (log later : Log) : Type 0 where
   pub begins : IsPrefix log later
-  pub calls : (seat k : ℕ) (c : FinishedCall) → IsCall log seat k c → IsCall later seat k c
-  pub real_time : (a b : FinishedCall) → WasOverBefore state log later a b → a.last < b.first
-  pub fresh : (a b : FinishedCall) → WasOverBefore state log later a b → HasSeen a.call a.reply b.reply
-  pub whole : (a b c : FinishedCall) (seat k : ℕ) → WasOverBefore state log later a b → accepts b.reply ≡ true → IsCall later seat k c
+  pub calls : (seat k : ℕ) (c : CompletedCall) → IsCompleted log seat k c → IsCompleted later seat k c
+  pub real_time : (a b : CompletedCall) → WasOverBefore state log later a b → a.last_index < b.first_index
+  pub fresh : (a b : CompletedCall) → WasOverBefore state log later a b → HasSeen a.call a.reply b.reply
+  pub whole : (a b c : CompletedCall) (seat k : ℕ) → WasOverBefore state log later a b → accepts b.reply ≡ true → IsCompleted later seat k c
       → HasSeen b.call b.reply c.reply → HasSeen a.call a.reply c.reply
 
 -- The history of a board that satisfies `rule`, its invariant, only grows, whichever steps of whichever passes come between two states: no
--- entry and no finished call ever moves, and the order of calls is that of real time.
+-- entry and no completed call ever moves, and the order of calls is that of real time.
 pub record HistoriesGoOn (rule : State Entry View → Type 0) : Type 0 where
   pub boards : BoardsHaveOneHistory rule
   pub later : (s t : State Entry View) (r : rule s) (q : rule t) → LaterState s t → LogGoesOn s (boards s r).log (boards t q).log

@@ -18,7 +18,7 @@ pub fn boards_have_one_history()
 {}
 
 /// Shows that the history of a word board only grows. After steps of any passes (`steps_are_monotone` of `ucl_words`) the log begins with
-/// what it was before, and no finished call moves. The order of calls, even of passes that told each other nothing, is that of real time: a
+/// what it was before, and no completed call moves. The order of calls, even of passes that told each other nothing, is that of real time: a
 /// call that had ended in some state goes before each call that began in it or later, also of a pass that was split off later. So a reading
 /// has the event of each report that was accepted, and over, before the reading began, and no lower version than a reading that was over by
 /// then. And no reading is torn: one that has the event of the later of two such reports has that of the earlier one.

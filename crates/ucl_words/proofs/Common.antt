@@ -20,8 +20,8 @@ pub use Rattle.ucl_board.proofs.HistoryTheorems.{begins_length, begins_more, beg
 pub use Rattle.ucl_board.specs.Fixtures.{IsMatch}
 pub use Rattle.ucl_board.specs.History.{IsLegal, MayFollow, attempted, board_of, entry_of, followed_by, match_after, reading_of}
 pub use Rattle.ucl_board.specs.History.{sequential_reply}
-pub use Rattle.ucl_log.specs.Log.{Access, AccessKind, Enlisted, Enlists, First, IsLog, IsThere, Log, Logged, Look, Match, MayBeTaken}
-pub use Rattle.ucl_log.specs.Log.{Second, Swap, Taken, Target, Whole, access, accesses_in, added_by, enlisted_by, history_of, logged_by}
+pub use Rattle.ucl_log.specs.Log.{Access, AccessKind, CountRead, CountRaised, First, IsWellFormedLog, ReadsCurrent, Log, LoggedStep, Look, Match, MayBeTaken}
+pub use Rattle.ucl_log.specs.Log.{Second, Swap, TakenStep, Action, Whole, access, accesses_in, added_by, enlisted_by, history_of, logged_by}
 pub use Rattle.ucl_log.specs.Log.{number_by, number_of, step_taken, taken_by}
 pub use Rattle.ucl_board.specs.Words.{AreWords, max_version, version_of, word_at}
 pub use Rattle.ucl_board.specs.declared.entry.Entry.{Entry}
@@ -42,11 +42,11 @@ pub use Rattle.ucl_live_board.specs.declared.view.View.{View}
 pub use Rattle.ucl_steps.proofs.Accesses.{clean_shows, collect_more, collect_none, collect_set, follows_append, follows_longer, follows_one}
 pub use Rattle.ucl_steps.proofs.Accesses.{follows_wider, reading_whole, report_whole, unclean_try}
 pub use Rattle.ucl_steps.proofs.Histories.{board_next, read_back}
-pub use Rattle.ucl_steps.proofs.Clients.{checking, client_number, collecting, count_none, enlist_none, first_none, look_none, second_none}
+pub use Rattle.ucl_steps.proofs.LocalStates.{checking, local_number, collecting, count_none, enlist_none, first_none, look_none, second_none}
 pub use Rattle.ucl_steps.proofs.LogFacts.{calls_low, legal_steps, logs_facts, logs_legal, logs_sound}
-pub use Rattle.ucl_steps.specs.ClientState.{ClientState, IsNextFor, IsNextOfProtocol, call_answered, call_asked, client_at, client_of}
-pub use Rattle.ucl_steps.specs.ClientState.{entry_by, first_place, new_client, next_game, outcome, with_outcome, with_step, with_target}
-pub use Rattle.ucl_steps.specs.ClientState.{FinishedCall}
+pub use Rattle.ucl_steps.specs.LocalState.{LocalState, IsNextFor, IsNextOfProtocol, call_answered, call_asked, local_at, local_of}
+pub use Rattle.ucl_steps.specs.LocalState.{entry_by, begun_index, initial_local, next_match, outcome, with_outcome, with_step, with_action}
+pub use Rattle.ucl_steps.specs.LocalState.{CompletedCall}
 pub use Rattle.ucl_steps.specs.Protocol.{Checking, Collecting, GoesOn, Holding, MayAsk, NoCall, Outcome, Pending, by_rules, collected}
 pub use Rattle.ucl_steps.specs.Protocol.{report_reply}
 pub use Rattle.ucl_steps.specs.Theorems.{IsReadFrom}

@@ -15,7 +15,7 @@ pub record Collected (kind : AccessKind) (v : View) (words : List ℕ) (count : 
   pub walks : Walks v accesses w
   pub many : length accesses ≡ count
   pub words_are : IsCollect kind words accesses
-  pub last : (m : Access) → slice_get accesses 11 ≡ Some m → m.at ≡ length (history_of w.log)
+  pub last : (m : Access) → slice_get accesses 11 ≡ Some m → m.length ≡ length (history_of w.log)
 
 -- before the first load of a collect a consistent pass has found 0 words
 pub collected_none : (kind : AccessKind) (v : View) (words : List ℕ) → IsConsistent v → Collected kind v words 0 v
@@ -25,12 +25,12 @@ collected_none kind v words consistent = record
 -- one load more of a collect, of the next match
 module _ (kind : AccessKind) (v x w : View) (words : List ℕ) (i n : ℕ) (below : i < 12) (was : Collected kind v words i x) (loads : LoadsMatch kind (i + 1) x n w) where
   abbrev new_access : Access
-  new_access = access kind (i + 1) n loads.place (length (history_of w.log))
+  new_access = access kind (i + 1) n loads.index (length (history_of w.log))
 
   pub more_walks : Walks v (was.accesses ++ new_access ∷ []) w
   more_walks = walks_on v x w was.accesses (new_access ∷ []) was.walks (walks_load kind (i + 1) n x w was.walks.consistent loads)
 
-  more_last : (m : Access) → slice_get (was.accesses ++ new_access ∷ []) 11 ≡ Some m → m.at ≡ length (history_of w.log)
+  more_last : (m : Access) → slice_get (was.accesses ++ new_access ∷ []) 11 ≡ Some m → m.length ≡ length (history_of w.log)
   more_last m e = search (arith, at_either)
 
   -- if its word is the one at its place in `now`, and the loads before found the first words of `now`, one more of them is found
@@ -130,9 +130,9 @@ first_or m (Some a) = a
 first_or m None = m
 
 -- accesses that follow a history from a length on follow it from the length at the first one
-from_first : (h : List Entry) (low high : ℕ) (ms : List Access) (first : Access) → Follows h low ms high → slice_get ms 0 ≡ Some first → Follows h first.at ms high
+from_first : (h : List Entry) (low high : ℕ) (ms : List Access) (first : Access) → Follows h low ms high → slice_get ms 0 ≡ Some first → Follows h first.length ms high
 from_first h low high [] first f at = absurd (none-some first at)
-from_first h low high (m ∷ ms) first f at = subst (λ (a : Access). Follows h a.at (m ∷ ms) high) (ap (first_or m) at) (le_refl m.at, f.1, f.2)
+from_first h low high (m ∷ ms) first f at = subst (λ (a : Access). Follows h a.length (m ∷ ms) high) (ap (first_or m) at) (le_refl m.length, f.1, f.2)
 
 -- the clean try: a first collect, and a second one that found all its words again
 module _ (x u w : View) (words : List ℕ) (long : length words ≡ 12) (collects : Collects x words u) (again : FindsAgain u words w) where
@@ -196,7 +196,7 @@ module _ (x u w : View) (words : List ℕ) (long : length words ≡ 12) (collect
             few = omega arith;
             meanwhile = λ first at.
                 let later = from_first (history_of w.log) (length (history_of v.log)) (length (history_of w.log)) all_accesses first all_walks.leaves.follows at in
-                let tries = (reading_whole (history_of w.log) first.at (length (history_of w.log)) clean_reading all_accesses all_walks.consistent.sound.legal
+                let tries = (reading_whole (history_of w.log) first.length (length (history_of w.log)) clean_reading all_accesses all_walks.consistent.sound.legal
                 (le_refl (length (history_of w.log))) later reading_accesses).tries in
                 omega arith;
           };

@@ -2,18 +2,18 @@
 use Rattle.ucl_words.proofs.Common.{Accepted, AcceptedReport, Access, Bool, CompletesCall, Continues, Entry, Err, EventCall, Follows, []}
 use Rattle.ucl_words.proofs.Common.{HasTrail, Holding, IfErr, IfOk, IsConsistent, IsHoldingFor, IsLegal, IsMatch, IsOk, IsPrefix, IsWord}
 use Rattle.ucl_words.proofs.Common.{List, Look, Match, MatchRecord, MayAsk, NoCall, None, Occurs, Ok, Pending, Refusal, RefusedReport}
-use Rattle.ucl_words.proofs.Common.{Reply, ReportAccesses, ReportSteps, Result, Some, Stale, StaysIn, Steps, Swap, Taken, View, Walks}
+use Rattle.ucl_words.proofs.Common.{Reply, ReportAccesses, ReportSteps, Result, Some, Stale, StaysIn, Steps, Swap, TakenStep, View, Walks}
 use Rattle.ucl_words.proofs.Common.{WordPass, WordReported, accepted_reply, access, adds_continue, after, after_number, ap, append-nil}
-use Rattle.ucl_words.proofs.Common.{append_assoc, arith, beginnings, begins_length, begins_more, begins_same, begins_through, client_number}
-use Rattle.ucl_words.proofs.Common.{client_of, entry_of, eq-eqb, false, followed_by, follows_append, follows_longer, follows_one, subst}
+use Rattle.ucl_words.proofs.Common.{append_assoc, arith, beginnings, begins_length, begins_more, begins_same, begins_through, local_number}
+use Rattle.ucl_words.proofs.Common.{local_of, entry_of, eq-eqb, false, followed_by, follows_append, follows_longer, follows_one, subst}
 use Rattle.ucl_words.proofs.Common.{follows_wider, game_after, history_of, inl, inr, le_refl, length, length-append, ne_eqb, number_of}
 use Rattle.ucl_words.proofs.Common.{pass_view_of, record_at, refl, refusal_of, refused_reply, reply_of, report_reply, report_whole}
 use Rattle.ucl_words.proofs.Common.{sequential_reply, sound, step_taken, steps_with, sym, take-length, takes_count, takes_on}
 use Rattle.ucl_words.proofs.Common.{trail_of, true, version_in, versions_shown, word_after, word_of, word_packed, ◌++◌, ◌+◌, ◌<◌, ◌==◌, ◌∙◌}
 use Rattle.ucl_words.proofs.Common.{◌∷◌, ◌≡◌, ◌≢◌, ◌≤◌, ℕ}
 use Rattle.ucl_words.proofs.Steps.{ExchangeWon, LoadsMatch, takes_trail, trail_on, walks_continue, walks_load, walks_on}
-use Rattle.ucl_words.proofs.Clients.{answered_shown, look_answers, look_holds, look_loads, reply_by, stays_answered, swap_finishes}
-use Rattle.ucl_words.proofs.Clients.{swap_missed, swap_won}
+use Rattle.ucl_words.proofs.LocalStates.{answered_shown, look_answers, look_holds, look_loads, reply_by, stays_answered, swap_finishes}
+use Rattle.ucl_words.proofs.LocalStates.{swap_missed, swap_won}
 use Rattle.ucl_steps.specs.declared.step.Call.TheVariants as calls
 use Rattle.ucl_steps.specs.declared.trace.Reply.TheVariants as replies
 
@@ -44,7 +44,7 @@ report_shown v w call reply c same = answered_shown v w (calls.Event call) (repo
 -- the load by which the pass of a seat begins a report, from the view v to the view u
 module _ (v u : View) (call : EventCall) (reporter loaded seat : ℕ) (game : IsMatch call.game)
     (me : (0 < reporter) × (reporter ≤ 255) × (number_of v.own ≡ reporter)) (consistent : IsConsistent v)
-    (nothing : (client_of v.own).held ≡ NoCall) (s : Steps seat (Match (Look call) call.game loaded) v u) where
+    (nothing : (local_of v.own).held ≡ NoCall) (s : Steps seat (Match (Look call) call.game loaded) v u) where
   may_ask : MayAsk (number_of v.own) (calls.Event call)
   may_ask = let a = me.0 in let b = me.1 in let is = me.2 in ((omega arith, omega arith), game)
 
@@ -52,7 +52,7 @@ module _ (v u : View) (call : EventCall) (reporter loaded seat : ℕ) (game : Is
   looked = look_loads seat loaded call v u s nothing
 
   abbrev look_access : Access
-  look_access = access (Look call) call.game loaded looked.place (length (history_of u.log))
+  look_access = access (Look call) call.game loaded looked.index (length (history_of u.log))
 
   look_walks : Walks v (look_access ∷ []) u
   look_walks = walks_load (Look call) call.game loaded v u consistent looked
@@ -79,25 +79,25 @@ module _ (v u : View) (call : EventCall) (reporter loaded seat : ℕ) (game : Is
   pub refused_report : (refusal : Refusal) → refusal_of (record_at loaded) call.expected call.kind ≡ Some refusal → Reported v call (Err refusal) u
   refused_report refusal refused =
       let reply = sym (refused_reply (record_at loaded) (record_at loaded) call refusal refl refused) in
-      refused_by (look_access ∷ []) u refusal look_walks (inl (record { looked = loaded; place = looked.place; accesses = refl; answer = reply }))
+      refused_by (look_access ∷ []) u refusal look_walks (inl (record { looked = loaded; index = looked.index; accesses = refl; answer = reply }))
       (look_answers seat loaded call v u s nothing refusal refused)
 
   -- if they accept it on that word, an exchange follows, by which `next` is to take its place
   module _ (accepts : refusal_of (record_at loaded) call.expected call.kind ≡ None) (next : ℕ) (valid : IsWord next) (next_is : record_at next ≡ after (record_at loaded) reporter call.kind) where
     abbrev next_held : Pending
-    next_held = Holding call loaded (word_of (after (record_at loaded) (client_of v.own).number call.kind))
+    next_held = Holding call loaded (word_of (after (record_at loaded) (local_of v.own).number call.kind))
 
     stays : StaysIn v next_held u
     stays = look_holds seat loaded call v u s nothing accepts
 
     -- the word that the pass holds for the exchange is `next`
-    word_is : word_of (after (record_at loaded) (client_of v.own).number call.kind) ≡ next
-    word_is = ap (λ (k : ℕ). word_of (after (record_at loaded) k call.kind)) (client_number v.own ∙ me.2) ∙ (ap word_of (sym next_is) ∙ word_packed next valid)
+    word_is : word_of (after (record_at loaded) (local_of v.own).number call.kind) ≡ next
+    word_is = ap (λ (k : ℕ). word_of (after (record_at loaded) k call.kind)) (local_number v.own ∙ me.2) ∙ (ap word_of (sym next_is) ∙ word_packed next valid)
 
-    held_then : (client_of u.own).held ≡ Holding call loaded next
+    held_then : (local_of u.own).held ≡ Holding call loaded next
     held_then = stays.held_is ∙ ap (λ (k : ℕ). Holding call loaded k) word_is
 
-    pub holding_for : IsHoldingFor (client_of u.own).held call.game loaded next
+    pub holding_for : IsHoldingFor (local_of u.own).held call.game loaded next
     holding_for = record { e = call; holds = held_then; of = refl }
 
     accepted_as : (number : ℕ) → number ≡ (record_at next).number → reply_of (record_at loaded) call ≡ Ok (record { number = number })
@@ -114,7 +114,7 @@ module _ (v u : View) (call : EventCall) (reporter loaded seat : ℕ) (game : Is
       pub missed_report : found ≢ loaded → (number : ℕ) → number ≡ (record_at found).number → Reported v call (Err (Stale number)) z
       missed_report other number is =
           let lost = swap_missed place call.game found loaded next call u z t held_then refl other in
-          let swapped : Access = access Swap call.game found lost.place (length (history_of z.log)) in
+          let swapped : Access = access Swap call.game found lost.index (length (history_of z.log)) in
           let walks = walks_on v u z (look_access ∷ []) (swapped ∷ []) look_walks (walks_load Swap call.game found u z look_walks.consistent lost) in
           let may : IsOk (reply_of (record_at loaded) call) =
           subst (λ (r : Result Accepted Refusal). IsOk r) (sym (accepted_as (record_at next).number refl)) refl in
@@ -122,7 +122,7 @@ module _ (v u : View) (call : EventCall) (reporter loaded seat : ℕ) (game : Is
           (inr (record {
             looked = loaded;
             found = found;
-            missed = record { at = length (history_of u.log); places = (looked.place, lost.place); accesses = refl; may = may };
+            missed = record { length = length (history_of u.log); indices = (looked.index, lost.index); accesses = refl; may = may };
             other = other;
             answer = ap (λ (n : ℕ). Stale n) is;
           }))
@@ -143,7 +143,7 @@ module _ (v u : View) (call : EventCall) (reporter loaded seat : ℕ) (game : Is
         seen = history_of z.log
 
         abbrev won_access : Access
-        won_access = access Swap call.game found won.place (length before)
+        won_access = access Swap call.game found won.index (length before)
 
         since_seen : IsPrefix (history_of v.log) before
         since_seen = begins_through (history_of v.log) (history_of u.log) before look_walks.on.seen won.since
@@ -168,8 +168,8 @@ module _ (v u : View) (call : EventCall) (reporter loaded seat : ℕ) (game : Is
             (le_refl (length (history_of v.log))) (omega arith)
             (follows_longer before seen (length (history_of v.log)) (length before) (look_access ∷ won_access ∷ []) begun (le_refl (length before)) both)
 
-        abbrev won_step : Taken
-        won_step = step_taken (Match Swap call.game found) won.place (length before) (Some entry)
+        abbrev won_step : TakenStep
+        won_step = step_taken (Match Swap call.game found) won.index (length before) (Some entry)
 
         won_trail : trail_of z ≡ trail_of v ++ look_access ∷ won_access ∷ []
         won_trail = takes_trail u z (won_step ∷ []) won.takes
@@ -214,10 +214,10 @@ module _ (v u : View) (call : EventCall) (reporter loaded seat : ℕ) (game : Is
                 };
                 report = record {
                   looked = loaded;
-                  at = length (history_of u.log);
+                  length = length (history_of u.log);
                   before = length before;
-                  places = (looked.place, won.place);
-                  accesses = ap (λ (k : ℕ). look_access ∷ access Swap call.game k won.place (length before) ∷ []) same;
+                  indices = (looked.index, won.index);
+                  accesses = ap (λ (k : ℕ). look_access ∷ access Swap call.game k won.index (length before) ∷ []) same;
                   answer = ok;
                   last = sym one_longer;
                 };

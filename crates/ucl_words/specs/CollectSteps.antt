@@ -6,7 +6,7 @@ use Rattle.ucl_log.specs.Log.{First, Second, Access, added_by, history_of, numbe
 use Rattle.ucl_steps.specs.declared.step.Call.{Call}
 use Rattle.ucl_steps.specs.declared.trace.Reply.{Reply}
 use Rattle.ucl_steps.specs.Protocol.{Pending, NoCall, Holding, Collecting}
-use Rattle.ucl_steps.specs.ClientState.{client_of}
+use Rattle.ucl_steps.specs.LocalState.{local_of}
 use Rattle.ucl_steps.specs.Trails.{IsCollect, IsBroken}
 use Rattle.ucl_live_board.specs.Passes.{SeesOn}
 use Rattle.ucl_live_board.specs.declared.view.View.{View}
@@ -31,7 +31,7 @@ pub record Walks (old : View) (accesses : List Access) (new : View) : Type 0 whe
 pub record IsFirstCollect (words : List ℕ) (accesses : List Access) (now : ℕ) : Type 0 where
   pub twelve : length accesses ≡ 12
   pub words_are : IsCollect First words accesses
-  pub last : (m : Access) → slice_get accesses 11 ≡ Some m → m.at ≡ now
+  pub last : (m : Access) → slice_get accesses 11 ≡ Some m → m.length ≡ now
 
 -- Between `old` and `new` the pass loaded all twelve match words, a first collect, and found `words`; at the last load the history was what
 -- the pass has then seen.
@@ -59,19 +59,19 @@ MayCollect NoCall = Unit {0}
 MayCollect (Collecting words) = words ≡ []
 MayCollect _ = ⊥
 
--- The first step of the call under way is at place `first` of the log. If no call was under way before (`NoCall`), `first` is `known` or
--- later; and if one was, it is `was`, the place of its first step.
+-- The first step of the pending call has the index `first` in the log. If no call was pending before (`NoCall`), `first` is `known` or
+-- later; and if one was, it is `was`, the index of its first step.
 abbrev pub IsBegun : Pending → ℕ → ℕ → ℕ → Type 0
 IsBegun NoCall known was first = known ≤ first
 IsBegun _ known was first = first ≡ was
 
 -- Between `old` and `new` the pass took steps of one call, not finished yet: `held` is what it keeps of the call, `begun` where that began.
 pub record StaysIn (old : View) (held : Pending) (new : View) : Type 0 where
-  pub calls : (client_of new.own).calls ≡ (client_of old.own).calls
-  pub held_is : (client_of new.own).held ≡ held
-  pub begun : IsBegun (client_of old.own).held (length old.log) (client_of old.own).first (client_of new.own).first
+  pub calls : (local_of new.own).calls ≡ (local_of old.own).calls
+  pub held_is : (local_of new.own).held ≡ held
+  pub begun : IsBegun (local_of old.own).held (length old.log) (local_of old.own).first_index (local_of new.own).first_index
 
 -- Between `old` and `new` the pass took the last steps of `call`, the call that was under way, which was answered with this reply.
 pub record Finishes (old : View) (call : Call) (reply : Reply) (new : View) : Type 0 where
   pub answers : IsAnswered old call reply new
-  pub first : answers.last.first ≡ (client_of old.own).first
+  pub first : answers.last.first_index ≡ (local_of old.own).first_index

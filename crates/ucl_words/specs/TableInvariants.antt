@@ -5,8 +5,8 @@ use Rattle.atomic_table.specs.Table.{State, Step, Me}
 use Rattle.ucl_word.specs.declared.event.EventCall.{EventCall}
 use Rattle.ucl_board.specs.declared.entry.Entry.{Entry}
 use Rattle.ucl_board.specs.History.{board_of}
-use Rattle.ucl_log.specs.Log.{Look, Swap, First, Second, Target, Match, Enlisted, Enlists, Taken}
-use Rattle.ucl_steps.specs.ClientState.{IsNextOfProtocol}
+use Rattle.ucl_log.specs.Log.{Look, Swap, First, Second, Action, Match, CountRead, CountRaised, TakenStep}
+use Rattle.ucl_steps.specs.LocalState.{IsNextOfProtocol}
 use Rattle.ucl_live_board.specs.declared.view.View.{View}
 use Rattle.ucl_live_board.specs.BoardInvariant.{BoardInvariant}
 use Rattle.ucl_live_board.specs.PossibleViews.{OccursIn, BothOccur}
@@ -34,9 +34,9 @@ Occurs seat pass = OccursIn words_after IsNextOfProtocol seat pass
 abbrev pub OccurAfterSplit : View → View → View → Type 0
 OccurAfterSplit = BothOccur words_after IsNextOfProtocol
 
--- The pass at a seat took one step on this target (which word, what was done and what was found), the next step of the protocol.
-abbrev pub Steps : ℕ → Target → View → View → Type 0
-Steps seat target before after = BoardStep words_after IsNextOfProtocol seat target before after
+-- The pass at a seat took one step with this action (which word, what was done and what was found), the next step of the protocol.
+abbrev pub Steps : ℕ → Action → View → View → Type 0
+Steps seat action before after = BoardStep words_after IsNextOfProtocol seat action before after
 
 -- The load of a match word that begins the report of the event `call`, by the pass at a seat.
 abbrev pub LookStep : ℕ → EventCall → Step Entry → Me Entry View → ℕ → Me Entry View → Type 0
@@ -50,19 +50,19 @@ FirstStep step before found after = (seat : ℕ) × Steps seat (Match First step
 abbrev pub SecondStep : ℕ → Step Entry → Me Entry View → ℕ → Me Entry View → Type 0
 SecondStep seat step before found after = Steps seat (Match Second step.word found) before.0 after.0
 
--- The compare and exchange of a match word by a report, won or lost, by the pass at a seat.
+-- The compare-and-exchange of a match word by a report, won or lost, by the pass at a seat.
 abbrev pub ExchangeStep : ℕ → Step Entry → Me Entry View → ℕ → Me Entry View → Type 0
 ExchangeStep seat step before found after = Steps seat (Match Swap step.word found) before.0 after.0
 
 -- A load of the number of enlisted reporters, and of no other word, by the pass at a seat.
 abbrev pub EnlistedStep : ℕ → Step Entry → Me Entry View → ℕ → Me Entry View → Type 0
-EnlistedStep seat step before found after = (step.word ≡ 0) × Steps seat (Enlisted found) before.0 after.0
+EnlistedStep seat step before found after = (step.word ≡ 0) × Steps seat (CountRead found) before.0 after.0
 
--- A compare and exchange of the number of enlisted reporters, by the pass at a seat: it is won, and adds one, if it finds `step.first`.
+-- A compare-and-exchange of the number of enlisted reporters, by the pass at a seat: it is won, and adds one, if it finds `step.first`.
 abbrev pub EnlistStep : ℕ → Step Entry → Me Entry View → ℕ → Me Entry View → Type 0
-EnlistStep seat step before found after = (step.word ≡ 0) × Steps seat (if found == step.first then Enlists found else Enlisted found) before.0 after.0
+EnlistStep seat step before found after = (step.word ≡ 0) × Steps seat (if found == step.first then CountRaised found else CountRead found) before.0 after.0
 
 -- A step of this kind, whatever it finds, adds exactly one step to those of the pass that takes it, of which the log is made.
 abbrev pub LogsOneStep : (Step Entry → Me Entry View → ℕ → Me Entry View → Type 0) → Type 0
 LogsOneStep kind = (step : Step Entry) (before : Me Entry View) (found : ℕ) (after : Me Entry View)
-    → kind step before found after → (taken : Taken) × Takes before.0 (taken ∷ []) after.0
+    → kind step before found after → (taken : TakenStep) × Takes before.0 (taken ∷ []) after.0

@@ -5,13 +5,13 @@ use Rattle.ucl_word.specs.declared.event.Accepted.{Accepted}
 use Rattle.ucl_word.specs.declared.refusal.Refusal.{Refusal}
 use Rattle.ucl_board.specs.declared.entry.Entry.{Entry}
 use Rattle.ucl_board.specs.declared.reading.Reading.{Reading}
-use Rattle.ucl_log.specs.Log.{Access, Taken, history_of, number_of}
+use Rattle.ucl_log.specs.Log.{Access, TakenStep, history_of, number_of}
 use Rattle.ucl_steps.specs.declared.step.Call.{Call}
 use Rattle.ucl_steps.specs.declared.step.Call.TheVariants as calls
 use Rattle.ucl_steps.specs.declared.trace.Reply.{Reply}
 use Rattle.ucl_steps.specs.Protocol.{MayAsk, NoCall}
-use Rattle.ucl_steps.specs.ClientState.{FinishedCall}
-use Rattle.ucl_steps.specs.ClientState.{client_of}
+use Rattle.ucl_steps.specs.LocalState.{CompletedCall}
+use Rattle.ucl_steps.specs.LocalState.{local_of}
 use Rattle.ucl_steps.specs.Trails.{Follows, ReportAccesses, max_tries, ReadingAccesses}
 use Rattle.ucl_live_board.specs.declared.view.View.{View}
 use Rattle.ucl_live_board.specs.Passes.{IsSound}
@@ -19,8 +19,8 @@ use Rattle.ucl_live_board.specs.Views.{count_of, trail_of, Takes}
 use Rattle.ucl_live_board.specs.CallSteps.{steps_with, entry_made, FoundEnlisted}
 use Rattle.ucl_words.specs.WordViews.{pass_view_of}
 
--- The trail of this pass agrees with the history: along it the points (lengths of the history) never fall, and each access found the word
--- of its match at its point.
+-- The trail of this pass agrees with the history: along it the lengths of the history never fall, and each access found the word of
+-- its match at its length.
 abbrev pub HasTrail : View → Type 0
 HasTrail pass = Follows (history_of pass.log) 0 (trail_of pass) (length (history_of pass.log))
 
@@ -55,19 +55,19 @@ pub record ReadingSteps (old : View) (reading : Reading) (new : View) : Type 0 w
   pub leaves : LeavesAccesses old accesses None new
   pub collects : ReadingAccesses reading accesses
   pub few : length collects.tries + 1 ≤ max_tries
-  pub meanwhile : (first : Access) → slice_get accesses 0 ≡ Some first → length collects.tries + first.at ≤ length (history_of new.log)
+  pub meanwhile : (first : Access) → slice_get accesses 0 ≡ Some first → length collects.tries + first.length ≤ length (history_of new.log)
 
--- These steps are the compare and exchanges of an enlistment, which gives a reader a number: the first expects `expected` reporters. One
+-- These steps are the compare-and-exchanges of an enlistment, which gives a reader a number: the first expects `expected` reporters. One
 -- that finds another number is followed by one that expects what it found. One that finds what it expected is the last, and gives the
 -- number after it. None expects 255 or more: then no number is given.
-abbrev pub Enlisting : ℕ → List Taken → Option ℕ → Type 0
+abbrev pub Enlisting : ℕ → List TakenStep → Option ℕ → Type 0
 Enlisting expected [] given = (255 ≤ expected) × (given ≡ None)
 Enlisting expected (step ∷ steps) given = (found : ℕ) × FoundEnlisted found step × (expected < 255)
     × (((found ≡ expected) × (steps ≡ []) × (given ≡ Some (expected + 1))) ⊎ ((found ≢ expected) × Enlisting found steps given))
 
 -- Between `old` and `new` the pass took exactly the steps of one enlistment, which gave it the number `given`: None if 255 were given.
 pub record EnlistTries (old : View) (given : Option ℕ) (new : View) : Type 0 where
-  pub steps : List Taken
+  pub steps : List TakenStep
   pub takes : Takes old steps new
   pub tries : Enlisting 0 steps given
 
@@ -76,21 +76,21 @@ pub record KeepsTrail (old new : View) : Type 0 where
   pub trail : trail_of new ≡ trail_of old
   pub whole_trail : HasTrail new
 
--- The report or reading `call` of the pass was answered with this reply: it is the last of its finished calls, and its last step is the
+-- The report or reading `call` of the pass was answered with this reply: it is the last of its completed calls, and its last step is the
 -- last of the log that the pass knows; no call is under way.
 pub record IsAnswered (old : View) (call : Call) (reply : Reply) (new : View) : Type 0 where
-  pub last : FinishedCall
-  pub calls : (client_of new.own).calls ≡ (client_of old.own).calls ++ last ∷ []
-  pub asked : (last.call ≡ call) × (last.reply ≡ reply) × (last.number ≡ (client_of old.own).number)
-  pub ended : length new.log ≡ last.last + 1
-  pub held : (client_of new.own).held ≡ NoCall
+  pub last : CompletedCall
+  pub calls : (local_of new.own).calls ≡ (local_of old.own).calls ++ last ∷ []
+  pub asked : (last.call ≡ call) × (last.reply ≡ reply) × (last.number ≡ (local_of old.own).number)
+  pub ended : length new.log ≡ last.last_index + 1
+  pub held : (local_of new.own).held ≡ NoCall
 
 -- Between `old` and `new` the report or reading `call` was begun and answered: its first step came after all steps that the pass had known.
 pub record CompletesCall (old : View) (call : Call) (reply : Reply) (new : View) : Type 0 where
   pub answers : IsAnswered old call reply new
-  pub since : length old.log ≤ answers.last.first
+  pub since : length old.log ≤ answers.last.first_index
 
 -- Between `old` and `new` the pass finished no report and no reading, and began none.
 pub record DoneAsBefore (old new : View) : Type 0 where
-  pub calls : (client_of new.own).calls ≡ (client_of old.own).calls
-  pub held : (client_of new.own).held ≡ (client_of old.own).held
+  pub calls : (local_of new.own).calls ≡ (local_of old.own).calls
+  pub held : (local_of new.own).held ≡ (local_of old.own).held

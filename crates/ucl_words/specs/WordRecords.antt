@@ -18,7 +18,7 @@ use Rattle.ucl_live_board.specs.Views.{count_of, first_pass, left_pass, second_p
 use Rattle.ucl_live_board.specs.CallSteps.{MeetingSteps}
 use Rattle.ucl_words.specs.WordCalls.{CompletesCall, DoneAsBefore, EnlistTries, KeepsTrail, ReportSteps, ReadingSteps}
 use Rattle.ucl_live_board.specs.PossibleViews.{OccursSomewhere}
-use Rattle.ucl_steps.specs.ClientState.{IsNextOfProtocol}
+use Rattle.ucl_steps.specs.LocalState.{IsNextOfProtocol}
 use Rattle.ucl_words.specs.TableInvariants.{Occurs, OccurAfterSplit, words_after}
 use Rattle.ucl_words.specs.WordViews.{WordPass, pass_view_of}
 
@@ -31,8 +31,8 @@ pub record WordOpened (new : WordPass) : Type 0 where
   pub fresh : new.pass ≡ first_pass
   pub occurs : Occurs new.seat new.pass
 
--- What a report promises: the event `call` was entered or refused, by one load and at most one compare and exchange of its match word. It
--- is the last call that its pass has finished, with this reply (`answers`).
+-- What a report promises: the event `call` was entered or refused, by one load and at most one compare-and-exchange of its match word. It
+-- is the last call that its pass has completed, with this reply (`answers`).
 pub record WordReported (old : WordPass) (call : EventCall) (reply : Result Accepted Refusal) (new : WordPass) : Type 0 where
   pub own : new.board ≡ old.board
   pub seat : new.seat ≡ old.seat
@@ -63,7 +63,7 @@ pub record WordSplit (old new second : WordPass) : Type 0 where
   pub given : second.pass ≡ second_pass old.pass
   pub occurs : OccurAfterSplit old.pass new.pass second.pass
 
--- What an enlistment promises: a reader's pass became a reporter's, with a number of its own, by at most 255 compare and exchanges.
+-- What an enlistment promises: a reader's pass became a reporter's, with a number of its own, by at most 255 compare-and-exchanges.
 pub record WordEnlisted (old new : WordPass) : Type 0 where
   pub own : new.board ≡ old.board
   pub seat : new.seat ≡ old.seat

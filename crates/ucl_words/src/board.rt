@@ -16,7 +16,7 @@ ghost use Rattle.ucl_word.specs.Record.{IsReporter};
 ghost use Rattle.ucl_steps.specs.Protocol.{NoCall, Collecting, Checking};
 ghost use Rattle.ucl_log.specs.Log as logs;
 ghost use Rattle.ucl_log.specs.Log.{history_of, number_of};
-ghost use Rattle.ucl_steps.specs.ClientState.{client_of, next_game};
+ghost use Rattle.ucl_steps.specs.LocalState.{local_of, next_match};
 ghost use Rattle.ucl_steps.specs.declared.step.Call.TheVariants as calls;
 ghost use Rattle.ucl_steps.specs.declared.trace.Reply.TheVariants as replies;
 
@@ -95,7 +95,7 @@ impl WordBoard {
         requires place { K.seat ≡ seat.old.id }
         requires call { K.call ≡ call.now }
         requires me { IsReporter (number_of seat.old.me.0.own) }
-        requires next { (client_of seat.old.me.0.own).held ≡ NoCall }
+        requires next { (local_of seat.old.me.0.own).held ≡ NoCall }
         ensures own { seat.new.table_id ≡ seat.old.table_id }
         ensures seat { seat.new.id ≡ seat.old.id }
         ensures game { IsMatch call.now.game }
@@ -111,7 +111,7 @@ impl WordBoard {
         requires table { seat.old.table_id ≡ self.now }
         requires acts { IsSome seat.old.me.0.share }
         requires place { K.seat ≡ seat.old.id }
-        requires next { IsHoldingFor (client_of seat.old.me.0.own).held entry.game loaded next }
+        requires next { IsHoldingFor (local_of seat.old.me.0.own).held entry.game loaded next }
         ensures own { seat.new.table_id ≡ seat.old.table_id }
         ensures seat { seat.new.id ≡ seat.old.id }
         ensures swaps { Steps seat.new.id (logs.Match logs.Swap entry.game result) seat.old.me.0
@@ -127,7 +127,7 @@ impl WordBoard {
     fn collect(&self, seat: &mut Seat) -> [u64; 12]
         requires table { seat.old.table_id ≡ self.now }
         requires consistent { IsConsistent seat.old.me.0 }
-        requires next { MayCollect (client_of seat.old.me.0.own).held }
+        requires next { MayCollect (local_of seat.old.me.0.own).held }
         ensures own { seat.new.table_id ≡ seat.old.table_id }
         ensures seat { seat.new.id ≡ seat.old.id }
         ensures long { length result ≡ 12 }
@@ -148,7 +148,7 @@ impl WordBoard {
         requires acts { IsSome seat.old.me.0.share }
         requires place { K.seat ≡ seat.old.id }
         requires word { IsMatch word }
-        requires next { word ≡ next_game logs.Second (client_of seat.old.me.0.own).held }
+        requires next { word ≡ next_match logs.Second (local_of seat.old.me.0.own).held }
         ensures own { seat.new.table_id ≡ seat.old.table_id }
         ensures seat { seat.new.id ≡ seat.old.id }
         ensures loads { Steps seat.new.id (logs.Match logs.Second word result) seat.old.me.0
@@ -161,7 +161,7 @@ impl WordBoard {
     fn is_clean(&self, seat: &mut Seat, words: &[u64; 12]) -> bool
         requires table { seat.old.table_id ≡ self.now }
         requires consistent { IsConsistent seat.old.me.0 }
-        requires next { (client_of seat.old.me.0.own).held
+        requires next { (local_of seat.old.me.0.own).held
             ≡ Checking words.now 0 (length (history_of seat.old.me.0.log)) }
         ensures own { seat.new.table_id ≡ seat.old.table_id }
         ensures seat { seat.new.id ≡ seat.old.id }
@@ -187,7 +187,7 @@ impl WordBoard {
     fn read_by(&self, seat: &mut Seat) -> Reading
         requires table { seat.old.table_id ≡ self.now }
         requires consistent { IsConsistent seat.old.me.0 }
-        requires next { (client_of seat.old.me.0.own).held ≡ NoCall }
+        requires next { (local_of seat.old.me.0.own).held ≡ NoCall }
         ensures consistent { IsConsistent seat.new.me.0 }
         ensures read { WordRead (pass_of seat.old.table_id seat.old.id seat.old.me.0) result
             (pass_of seat.new.table_id seat.new.id seat.new.me.0) }
@@ -206,14 +206,14 @@ impl WordBoard {
         requires acts { IsSome seat.old.me.0.share }
         requires reader { number_of seat.old.me.0.own ≡ 0 }
         requires place { K.seat ≡ seat.old.id }
-        requires next { (client_of seat.old.me.0.own).held ≡ NoCall }
+        requires next { (local_of seat.old.me.0.own).held ≡ NoCall }
         requires room { tried < 255 }
         ensures own { seat.new.table_id ≡ seat.old.table_id }
         ensures seat { seat.new.id ≡ seat.old.id }
         ensures won { result ≡ tried
-            → Steps seat.new.id (logs.Enlists result) seat.old.me.0 seat.new.me.0 }
+            → Steps seat.new.id (logs.CountRaised result) seat.old.me.0 seat.new.me.0 }
         ensures missed { result ≢ tried
-            → Steps seat.new.id (logs.Enlisted result) seat.old.me.0 seat.new.me.0 }
+            → Steps seat.new.id (logs.CountRead result) seat.old.me.0 seat.new.me.0 }
     {
         self.table
             .shared
@@ -227,12 +227,12 @@ impl WordBoard {
         requires place { K.seat ≡ seat.old.id }
         ensures own { seat.new.table_id ≡ seat.old.table_id }
         ensures seat { seat.new.id ≡ seat.old.id }
-        ensures counts { Steps seat.new.id (logs.Enlisted result) seat.old.me.0 seat.new.me.0 }
+        ensures counts { Steps seat.new.id (logs.CountRead result) seat.old.me.0 seat.new.me.0 }
     {
         self.table.shared.load::<CountEnlisted<K>>(seat, ENLISTED)
     }
 
-    /// Enters the event `call` under the number of the pass, by one load and at most one compare and exchange of its match word. An
+    /// Enters the event `call` under the number of the pass, by one load and at most one compare-and-exchange of its match word. An
     /// accepted event is the last that the pass has then seen.
     ///
     /// # Errors
@@ -331,7 +331,7 @@ impl WordBoard {
         WordReaderPass { seat }
     }
 
-    /// Makes a reader's pass a reporter's, under a number of its own, by at most 255 compare and exchanges of the number of reporters: the
+    /// Makes a reader's pass a reporter's, under a number of its own, by at most 255 compare-and-exchanges of the number of reporters: the
     /// first expects none, and each later one as many as the one before found.
     ///
     /// # Errors

@@ -1,5 +1,5 @@
 //! A board that threads share and that never waits: thirteen words, each loaded or exchanged in one atomic step. A thread calls it by a
-//! pass, a reader's or a reporter's. Reports are one load and at most one compare and exchange; readings are the clean double collect of
+//! pass, a reader's or a reporter's. Reports are one load and at most one compare-and-exchange; readings are the clean double collect of
 //! Herlihy and Shavit.
 //!
 //! # Examples

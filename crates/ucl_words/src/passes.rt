@@ -4,7 +4,7 @@ ghost use Rattle.std.specs.Prelude.{◌≡◌, length};
 ghost use Rattle.ucl_log.specs.Log.{added_by, number_of};
 ghost use Rattle.ucl_steps.specs.Protocol.{NoCall};
 ghost use Rattle.ucl_words.specs.WordCalls.{IsConsistent};
-ghost use Rattle.ucl_steps.specs.ClientState.{client_of};
+ghost use Rattle.ucl_steps.specs.LocalState.{local_of};
 ghost use Rattle.ucl_words.specs.WordViews.{WordPass, pass_of};
 
 use crate::rule::Seat;
@@ -24,7 +24,7 @@ impl Model for WordReaderPass {
 
     ghost invariant = { λ reader. IsConsistent reader.seat.me.0
         × (number_of reader.seat.me.0.own ≡ 0)
-        × ((client_of reader.seat.me.0.own).held ≡ NoCall) };
+        × ((local_of reader.seat.me.0.own).held ≡ NoCall) };
 }
 
 impl WordReaderPass {
@@ -53,7 +53,7 @@ impl Model for WordReporterPass {
     ghost invariant = { λ reporter. IsConsistent reporter.seat.me.0
         × (number_of reporter.seat.me.0.own ≡ reporter.number)
         × (length (added_by reporter.seat.me.0.own) ≡ reporter.accepted)
-        × ((client_of reporter.seat.me.0.own).held ≡ NoCall) };
+        × ((local_of reporter.seat.me.0.own).held ≡ NoCall) };
 }
 
 impl WordReporterPass {

@@ -3,7 +3,7 @@
 
 ghost use Rattle.ucl_words.specs.TableInvariants.{TableInvariant, words_after};
 ghost use Rattle.ucl_words.specs.TableInvariants.{LookStep, FirstStep, SecondStep, EnlistedStep, ExchangeStep, EnlistStep};
-ghost use Rattle.ucl_steps.specs.ClientState.{IsNextOfProtocol};
+ghost use Rattle.ucl_steps.specs.LocalState.{IsNextOfProtocol};
 ghost use Rattle.ucl_live_board.specs.Views.{new_pass, first_pass, left_pass, second_pass, note_pass, told_pass};
 
 use atomic_table::{Join, Play, Split, TableRule};
@@ -58,14 +58,14 @@ impl<K: Asking> Play<Entry, View> for CountEnlisted<K> {
     ghost then = { EnlistedStep K.seat };
 }
 
-/// The compare and exchange of a match word that ends a report, won or lost.
+/// The compare-and-exchange of a match word that ends a report, won or lost.
 pub struct Swap<K>(PhantomData<K>);
 
 impl<K: Asking> Play<Entry, View> for Swap<K> {
     ghost then = { ExchangeStep K.seat };
 }
 
-/// A compare and exchange of the number of enlisted reporters, won or lost; if it is won, its pass becomes a reporter's.
+/// A compare-and-exchange of the number of enlisted reporters, won or lost; if it is won, its pass becomes a reporter's.
 pub struct Enlist<K>(PhantomData<K>);
 
 impl<K: Asking> Play<Entry, View> for Enlist<K> {

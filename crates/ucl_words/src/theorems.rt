@@ -10,12 +10,12 @@ use atomic_table::{Join, Play, Split};
 use ucl_board::Entry;
 use ucl_live_board::View;
 
-/// Shows that the match, the word found and the word put in its place tell which event a compare and exchange has entered, and whose.
+/// Shows that the match, the word found and the word put in its place tell which event a compare-and-exchange has entered, and whose.
 pub fn words_tell_the_entry()
     ensures { WordsTellTheEntry }
 {}
 
-/// Shows that all finished reports and readings of all passes are linearizable (Herlihy and Wing) in the order of the log, even if no pass
+/// Shows that all completed reports and readings of all passes are linearizable (Herlihy and Wing) in the order of the log, even if no pass
 /// told another what it knew, in every state that satisfies the invariant. The log has all steps, each the next one of the protocol. Its
 /// history is legal and gives the match words. It is a run of the protocol's machine (`ucl_steps`), of which each step on a match word is
 /// one step. That its order is that of real time is `later_boards_extend`, with what each call says of its first step and its last.

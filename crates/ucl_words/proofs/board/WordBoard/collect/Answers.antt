@@ -1,6 +1,6 @@
 use Rattle.ucl_words.proofs.Common.{◌+◌, ◌∙◌, arith, length-set, First}
 use Rattle.ucl_words.proofs.Steps.{firsts}
-use Rattle.ucl_words.proofs.Clients.{first_next, first_on, first_loads, firsts_all}
+use Rattle.ucl_words.proofs.LocalStates.{first_next, first_on, first_loads, firsts_all}
 use Rattle.ucl_words.proofs.Readings.{collected_none, collected_set}
 use Rattle.ucl_words.proofs.board.WordBoard.collect.Goals as goal
 

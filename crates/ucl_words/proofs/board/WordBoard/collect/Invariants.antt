@@ -1,5 +1,5 @@
 use Rattle.ucl_words.proofs.Common.{◌≡◌, length, First}
-use Rattle.ucl_words.proofs.Clients.{Firsts}
+use Rattle.ucl_words.proofs.LocalStates.{Firsts}
 use Rattle.ucl_words.proofs.Readings.{Collected}
 use Rattle.ucl_words.proofs.board.WordBoard.collect.Given as goal
 

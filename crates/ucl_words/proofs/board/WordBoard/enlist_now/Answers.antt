@@ -1,6 +1,6 @@
 use Rattle.ucl_words.proofs.Common.{inl, inr, refl, sym, ap, ◌∙◌, arith, rules, length, Occurs, pass_of}
 use Rattle.ucl_words.proofs.Steps.{loads_enlisted, enlist_won}
-use Rattle.ucl_words.proofs.Clients.{counted_does, enlisted_does}
+use Rattle.ucl_words.proofs.LocalStates.{counted_does, enlisted_does}
 use Rattle.ucl_words.proofs.Boards.{missed_none, missed_higher, missed_more, won_consistent, won_number, was_enlisted, was_full}
 use Rattle.ucl_words.proofs.board.WordBoard.enlist_now.Goals as goal
 

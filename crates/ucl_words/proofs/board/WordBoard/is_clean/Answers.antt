@@ -1,5 +1,5 @@
-use Rattle.ucl_words.proofs.Common.{arith, length, history_of, ap, sym, refl, ◌∙◌, ◌≡◌, next_game, slice_index, Second, ClientState}
-use Rattle.ucl_words.proofs.Clients.{seconds_none, second_loads, second_on, second_last, second_other}
+use Rattle.ucl_words.proofs.Common.{arith, length, history_of, ap, sym, refl, ◌∙◌, ◌≡◌, next_match, slice_index, Second, LocalState}
+use Rattle.ucl_words.proofs.LocalStates.{seconds_none, second_loads, second_on, second_last, second_other}
 use Rattle.ucl_words.proofs.Readings.{collected_none, collected_same, collected_other, finds_again}
 use Rattle.ucl_words.proofs.board.WordBoard.is_clean.Goals as goal
 
@@ -23,7 +23,7 @@ load_again-requires-clause-word c = (omega arith, omega arith)
 
 -- the match word that is loaded is the next that the second collect is to compare
 pub load_again-requires-clause-next : goal.load_again-requires-clause-next
-load_again-requires-clause-next c = ap (λ (d : ClientState). next_game Second d.held) (sym (c.loop-checked.invariant.so_far (omega arith)).1)
+load_again-requires-clause-next c = ap (λ (d : LocalState). next_match Second d.held) (sym (c.loop-checked.invariant.so_far (omega arith)).1)
 
 -- a load that found its word again keeps the loop's invariant
 pub loop-checked-preserved : goal.loop-checked-preserved

@@ -1,5 +1,5 @@
 use Rattle.ucl_words.proofs.Common.{◌≡◌, ◌<◌, length, Occurs, Second, FindsAgain, Finishes, history_of, reading_of}
-use Rattle.ucl_words.proofs.Clients.{Seconds}
+use Rattle.ucl_words.proofs.LocalStates.{Seconds}
 use Rattle.ucl_words.proofs.Readings.{Collected}
 use Rattle.ucl_live_board.specs.Steps.{no_call}
 use Rattle.ucl_steps.specs.declared.step.Call.TheVariants as calls

@@ -1,4 +1,4 @@
-use Rattle.ucl_words.proofs.Common.{ap, length, sym, ◌∙◌, ◌≡◌, subst, arith, rules, IsSome, View, Steps, Enlisted, Joins, TableInvariant}
+use Rattle.ucl_words.proofs.Common.{ap, length, sym, ◌∙◌, ◌≡◌, subst, arith, rules, IsSome, View, Steps, CountRead, Joins, TableInvariant}
 use Rattle.ucl_words.proofs.Common.{WordMet, IsConsistent, pass_of, told_pass, new_pass}
 use Rattle.ucl_words.proofs.Steps.{notes, joins}
 use Rattle.ucl_words.proofs.Boards.{met_consistent, was_met}
@@ -36,7 +36,7 @@ met c =
     let note = c.split_seat-note.ensures in
     let count = c.count.ensures in
     let joined = ap (λ m. m.0) c.join_seat.ensures.2 ∙ ap (told_pass k.me.0) (ap (λ m. m.0) note.4) in
-    let s = subst (λ (u : View). Steps m.id (Enlisted c.count.result) u m.me.0) joined count.counts in
+    let s = subst (λ (u : View). Steps m.id (CountRead c.count.result) u m.me.0) joined count.counts in
     let same : pass_of b.table_id b.id b.me.0 ≡ pass_of a.table_id a.id a.me.0 = (λ i. pass_of (note.0 i) (note.1 i) (ap (λ m. m.0) note.2 i)) in
     let first = pass_of a.table_id a.id a.me.0 in
     let then = pass_of b.table_id b.id b.me.0 in

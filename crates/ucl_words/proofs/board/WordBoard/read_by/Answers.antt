@@ -1,5 +1,5 @@
 use Rattle.ucl_words.proofs.Common.{history_of, inl, inr, ◌∙◌, refl, sym, ap, subst, arith, reading_of, Reading, length, CompletesCall}
-use Rattle.ucl_words.proofs.Clients.{tries_may, tries_on, tries_again, stays_answered, answered_shown}
+use Rattle.ucl_words.proofs.LocalStates.{tries_may, tries_on, tries_again, stays_answered, answered_shown}
 use Rattle.ucl_words.proofs.Readings.{tried_none, tried_longer, tried_again, are_words, reads}
 use Rattle.ucl_steps.specs.declared.step.Call.TheVariants as calls
 use Rattle.ucl_steps.specs.declared.trace.Reply.TheVariants as replies

@@ -1,5 +1,5 @@
 use Rattle.ucl_words.proofs.Common.{history_of, ◌≡◌, ◌-◌, length, max_tries}
-use Rattle.ucl_words.proofs.Clients.{Tries}
+use Rattle.ucl_words.proofs.LocalStates.{Tries}
 use Rattle.ucl_words.proofs.Readings.{Tried}
 use Rattle.ucl_words.proofs.board.WordBoard.read_by.Given as goal
 

@@ -1,5 +1,5 @@
 use Rattle.ucl_words.proofs.Common.{added_by, ℕ, ◌+◌, sym, ap, ◌∙◌, subst, arith, rules, length, length-append, Ok, Err, Stale}
-use Rattle.ucl_words.proofs.Common.{Entry, Steps, pass_view_of, pass_of, IsHoldingFor, client_of, Match, Swap}
+use Rattle.ucl_words.proofs.Common.{Entry, Steps, pass_view_of, pass_of, IsHoldingFor, local_of, Match, Swap}
 use Rattle.ucl_word.proofs.Words.{packing}
 use Rattle.ucl_words.proofs.Steps.{found_word}
 use Rattle.ucl_words.proofs.Reports.{Reported, refused_report, holding_for, accepted_report, missed_report, was_reported}
@@ -35,7 +35,7 @@ swap-found-requires-clause-next c =
     let said = c.look-loaded.ensures in
     let next = c.in_ok-next.ensures in
     let held = packing _ _ next.valid next.accepted.1 in
-    subst (λ (e : Entry). IsHoldingFor (client_of c.look-loaded.new.seat.me.0.own).held e.game c.look-loaded.result c.in_ok-next.next) (sym c.of-entry.ensures)
+    subst (λ (e : Entry). IsHoldingFor (local_of c.look-loaded.new.seat.me.0.own).held e.game c.look-loaded.result c.in_ok-next.next) (sym c.of-entry.ensures)
     (holding_for c.pass.inside.seat.me.0 c.look-loaded.new.seat.me.0 c.args.call.now c.pass.inside.number c.look-loaded.result c.look-loaded.new.seat.id said.game
     (search (arith, c.pass.ranges))
     c.pass.invariant.0 c.pass.invariant.3 said.looks next.accepted.0 c.in_ok-next.next held.0 held.1)

@@ -1,11 +1,11 @@
-use Rattle.ucl_words.proofs.Common.{number_of, arith, rules, ◌≡◌, ap, refl, sym, subst, NoCall, View, IsConsistent, client_of, pass_of}
+use Rattle.ucl_words.proofs.Common.{number_of, arith, rules, ◌≡◌, ap, refl, sym, subst, NoCall, View, IsConsistent, local_of, pass_of}
 use Rattle.ucl_words.proofs.Steps.{seconds}
 use Rattle.ucl_words.proofs.Boards.{left_consistent, second_consistent, was_split}
 use Rattle.ucl_words.proofs.board.WordBoard.split_now.Goals as goal
 
 -- a consistent pass of a reader, which holds no call
 abbrev IsReader : View → Type 0
-IsReader v = IsConsistent v × (number_of v.own ≡ 0) × ((client_of v.own).held ≡ NoCall)
+IsReader v = IsConsistent v × (number_of v.own ≡ 0) × ((local_of v.own).held ≡ NoCall)
 
 pub split_seat-seat-requires : goal.split_seat-seat-requires
 split_seat-seat-requires c = (search rules, omega (arith, c.self.invariant.0), seconds c.pass.inside.seat.id c.pass.inside.seat.me.0)

@@ -4,31 +4,31 @@ use Rattle.ucl_steps.proofs.Common.{refl, sym, ap, ◌∙◌, subst, arith, [], 
 use Rattle.ucl_steps.proofs.Common.{false≢true, take-append-le, take-append-drop, take-append_seam, take-take, take-length, at_below, at_longer, at_end, at_either}
 use Rattle.ucl_steps.proofs.Common.{begins_length, IsPrefix, Entry, EventCall, Refusal, Stale, refusal_of, record_at, entry_of, reading_of}
 use Rattle.ucl_steps.proofs.Common.{Reply, Accepted, Refused, Copied, Pending, NoCall, Holding, Collecting, Checking, Outcome, GoesOn, Answers}
-use Rattle.ucl_steps.proofs.Common.{by_rules, drop, FinishedCall, accepts}
+use Rattle.ucl_steps.proofs.Common.{by_rules, drop, CompletedCall, accepts}
 use Rattle.std.specs.List.{fold}
 use Rattle.std.proofs.lemmas.List.Sums.{fold-append}
 use Rattle.ucl_word.proofs.Sequences.{may_induction, may_begin, may_last}
-use Rattle.ucl_log.specs.Log.{Enlisted, Enlists, First, IsLog, Log, Logged, Look, Match, MayBeTaken, Second, Swap, Taken, Target, Whole, entry_list}
+use Rattle.ucl_log.specs.Log.{CountRead, CountRaised, First, IsWellFormedLog, Log, LoggedStep, Look, Match, MayBeTaken, Second, Swap, TakenStep, Action, Whole, entry_list}
 use Rattle.ucl_log.specs.Log.{history_of, taken_by, enlisted_by, number_by, number_of, MayEnlist, LogFacts}
 use Rattle.ucl_log.proofs.Logs.{history_append, history_more, taken_own, taken_other}
-use Rattle.ucl_steps.specs.ClientState.{ClientState, FollowsProtocol, IsNextFor, IsNextOfProtocol, with_outcome, with_target, with_step}
-use Rattle.ucl_steps.specs.ClientState.{call_answered, client_at, client_of, entry_by, first_place, new_client, outcome}
+use Rattle.ucl_steps.specs.LocalState.{LocalState, FollowsProtocol, IsNextFor, IsNextOfProtocol, with_outcome, with_action, with_step}
+use Rattle.ucl_steps.specs.LocalState.{call_answered, local_at, local_of, entry_by, begun_index, initial_local, outcome}
 use Rattle.ucl_steps.proofs.Points.{entries_before, point_at, point_of, pointed}
 
 -- a step of a pass is added to what the pass has done
-pub client_own : (log : Log) (x : Logged) → client_at x.seat (log ++ x ∷ []) ≡ with_step (client_at x.seat log) x.step
-client_own log x = ap client_of (taken_own x.seat log x.step) ∙ fold-append with_step new_client (taken_by x.seat log) (x.step ∷ [])
+pub local_own : (log : Log) (x : LoggedStep) → local_at x.seat (log ++ x ∷ []) ≡ with_step (local_at x.seat log) x.step
+local_own log x = ap local_of (taken_own x.seat log x.step) ∙ fold-append with_step initial_local (taken_by x.seat log) (x.step ∷ [])
 
 -- a step of one seat leaves what the pass of another seat has done
-pub client_other : (log : Log) (x : Logged) (seat : ℕ) → x.seat ≢ seat → client_at seat (log ++ x ∷ []) ≡ client_at seat log
-client_other log x seat not = ap client_of (taken_other seat log x not)
+pub local_other : (log : Log) (x : LoggedStep) (seat : ℕ) → x.seat ≢ seat → local_at seat (log ++ x ∷ []) ≡ local_at seat log
+local_other log x seat not = ap local_of (taken_other seat log x not)
 
 -- P holds of what each pass has done after a step if it holds of what the step's own pass has done, and of the others as before
-pub by_seat : (log : Log) (x : Logged) (P : ℕ → ClientState → Type 0) (d : ClientState) → with_step (client_at x.seat log) x.step ≡ d → P x.seat d
-    → ((seat : ℕ) → x.seat ≢ seat → P seat (client_at seat log)) → (seat : ℕ) → P seat (client_at seat (log ++ x ∷ []))
+pub by_seat : (log : Log) (x : LoggedStep) (P : ℕ → LocalState → Type 0) (d : LocalState) → with_step (local_at x.seat log) x.step ≡ d → P x.seat d
+    → ((seat : ℕ) → x.seat ≢ seat → P seat (local_at seat log)) → (seat : ℕ) → P seat (local_at seat (log ++ x ∷ []))
 by_seat log x P d is own other seat = elim (cases_eq x.seat seat) [
-  | inl same ↦ subst (λ (k : ℕ). P k (client_at k (log ++ x ∷ []))) same (subst (P x.seat) (sym (client_own log x ∙ is)) own)
-  | inr not ↦ subst (P seat) (sym (client_other log x seat not)) (other seat not)
+  | inl same ↦ subst (λ (k : ℕ). P k (local_at k (log ++ x ∷ []))) same (subst (P x.seat) (sym (local_own log x ∙ is)) own)
+  | inr not ↦ subst (P seat) (sym (local_other log x seat not)) (other seat not)
 ]
 
 -- the entries before a place of a log are no more than its history has
@@ -68,41 +68,41 @@ pub second_none : (h : Pending) (number game found : ℕ) → entry_by number h 
 second_none h number game found = search arith
 
 -- a load of the number of enlisted reporters adds no entry
-pub count_none : (h : Pending) (number found : ℕ) → entry_by number h (Enlisted found) ≡ None
+pub count_none : (h : Pending) (number found : ℕ) → entry_by number h (CountRead found) ≡ None
 count_none h number found = search arith
 
 -- an enlistment adds no entry
-pub enlist_none : (h : Pending) (number found : ℕ) → entry_by number h (Enlists found) ≡ None
+pub enlist_none : (h : Pending) (number found : ℕ) → entry_by number h (CountRaised found) ≡ None
 enlist_none h number found = search arith
 
 -- an outcome leaves the number of a pass
-outcome_number : (o : Outcome) (y : Taken) (d : ClientState) → (with_outcome o y d).number ≡ d.number
+outcome_number : (o : Outcome) (y : TakenStep) (d : LocalState) → (with_outcome o y d).number ≡ d.number
 outcome_number o y d = search arith
 
--- after a step a pass has the number that the step's target gives it: an enlistment that found n reporters gives n + 1, others leave it
-pub number_after : (target : Target) (y : Taken) (d : ClientState) → (with_target target y d).number ≡ number_by target d.number
-number_after target y d = search (arith, outcome_number)
+-- after a step a pass has the number that the step's action gives it: an enlistment that found n reporters gives n + 1, others leave it
+pub number_after : (action : Action) (y : TakenStep) (d : LocalState) → (with_action action y d).number ≡ number_by action d.number
+number_after action y d = search (arith, outcome_number)
 
 -- from number n on, the steps of a pass change its number in turn: an enlistment that found m reporters sets it to m + 1, others leave it
-number_from : (d : ClientState) (n : ℕ) → d.number ≡ n → (steps : List Taken)
-    → (fold with_step d steps).number ≡ fold (λ (number : ℕ) (x : Taken). number_by x.target number) n steps
+number_from : (d : LocalState) (n : ℕ) → d.number ≡ n → (steps : List TakenStep)
+    → (fold with_step d steps).number ≡ fold (λ (number : ℕ) (x : TakenStep). number_by x.action number) n steps
 number_from d n is [] = is
-number_from d n is (x ∷ steps) = number_from (with_step d x) (number_by x.target n) (number_after x.target x d ∙ ap (number_by x.target) is) steps
+number_from d n is (x ∷ steps) = number_from (with_step d x) (number_by x.action n) (number_after x.action x d ∙ ap (number_by x.action) is) steps
 
 -- the number of a pass is the one that all its steps gave it
-pub client_number : (steps : List Taken) → (client_of steps).number ≡ number_of steps
-client_number steps = number_from new_client 0 refl steps
+pub local_number : (steps : List TakenStep) → (local_of steps).number ≡ number_of steps
+local_number steps = number_from initial_local 0 refl steps
 
 -- in a log whose numbers were given in order (LogFacts) no pass has a greater number than there are enlisted reporters
-pub numbers_low : (log : Log) → LogFacts log → (seat : ℕ) → (client_at seat log).number ≤ enlisted_by log
-numbers_low log facts seat = let low = facts.low seat in let is = client_number (taken_by seat log) in omega arith
+pub numbers_low : (log : Log) → LogFacts log → (seat : ℕ) → (local_at seat log).number ≤ enlisted_by log
+numbers_low log facts seat = let low = facts.low seat in let is = local_number (taken_by seat log) in omega arith
 
 -- in a log whose numbers were given in order (LogFacts) two passes with the same number, which is not 0, have the same seat
-pub numbers_apart : (log : Log) → LogFacts log → (i j : ℕ) → 0 < (client_at i log).number → (client_at i log).number ≡ (client_at j log).number → i ≡ j
-numbers_apart log facts i j pos same = let n = client_number (taken_by i log) in let m = client_number (taken_by j log) in facts.apart i j (omega arith) (omega arith)
+pub numbers_apart : (log : Log) → LogFacts log → (i j : ℕ) → 0 < (local_at i log).number → (local_at i log).number ≡ (local_at j log).number → i ≡ j
+numbers_apart log facts i j pos same = let n = local_number (taken_by i log) in let m = local_number (taken_by j log) in facts.apart i j (omega arith) (omega arith)
 
 -- a step that the protocol lets come next enlists only a pass that has no number, and adds no entry then
-pub may_enlist : (d : ClientState) (number : ℕ) (t : Target) (entry : Option Entry) → d.number ≡ number → IsNextFor d t → entry ≡ entry_by d.number d.held t → MayEnlist number t entry
+pub may_enlist : (d : LocalState) (number : ℕ) (t : Action) (entry : Option Entry) → d.number ≡ number → IsNextFor d t → entry ≡ entry_by d.number d.held t → MayEnlist number t entry
 may_enlist d number t entry same next is = search (arith, enlist_none)
 
 -- a pass that holds an event is in a call
@@ -123,7 +123,7 @@ AddsBy held now entry (Answers (Accepted accepted)) = ((e : Entry) × (entry ≡
 AddsBy held now entry outcome = entry ≡ None
 
 -- a step adds an entry exactly if it answers that an event is accepted
-adds_by : (number : ℕ) (h : Pending) (t : Target) (now : ℕ) → AddsBy h now (entry_by number h t) (outcome number h t now)
+adds_by : (number : ℕ) (h : Pending) (t : Action) (now : ℕ) → AddsBy h now (entry_by number h t) (outcome number h t now)
 adds_by number (Holding e old new) (Match Swap game found) now = by (found == old)
   where
     by : (b : Bool) → AddsBy (Holding e old new) now (cond b (Some (entry_of number e)) None)
@@ -155,61 +155,61 @@ NotedBy log first (Answers reply) = Unit {0}
 
 -- after a step with `now` entries before it, a reading in its second collect keeps a point between its first step and the end of the log,
 -- if `now` lies there, and so did the point that it kept before, if any
-noted_by : (log : Log) (first place number now : ℕ) (h : Pending) (t : Target) → entries_before log (first_place h first place) ≤ now
-    → now ≤ length (history_of log) → Noted log first h → NotedBy log (first_place h first place) (outcome number h t now)
+noted_by : (log : Log) (first place number now : ℕ) (h : Pending) (t : Action) → entries_before log (begun_index h first place) ≤ now
+    → now ≤ length (history_of log) → Noted log first h → NotedBy log (begun_index h first place) (outcome number h t now)
 noted_by log first place number now h t low high s = search arith
 
 -- a place `last` before a step, and before the first step of the call under way, if any, is before the first step of the step's call
-first_after : (h : Pending) (first place last : ℕ) → last < place → (h ≢ NoCall → last < first) → last < first_place h first place
+first_after : (h : Pending) (first place last : ℕ) → last < place → (h ≢ NoCall → last < first) → last < begun_index h first place
 first_after h first place last now was = search (arith, holding, collecting, checking)
 
 -- the call of a step at `place` began no later than there
-first_low : (h : Pending) (first place : ℕ) → (h ≢ NoCall → first < place) → first_place h first place ≤ place
+first_low : (h : Pending) (first place : ℕ) → (h ≢ NoCall → first < place) → begun_index h first place ≤ place
 first_low h first place was = search (arith, le_refl, holding, collecting, checking)
 
 -- the point of a call lies between the first step of the call and the present
 point_within : (log : Log) (h : Pending) (first place now : ℕ) → now ≡ length (history_of log) → Noted log first h
-    → (entries_before log (first_place h first place) ≤ point_of h now) × (point_of h now ≤ now)
+    → (entries_before log (begun_index h first place) ≤ point_of h now) × (point_of h now ≤ now)
 point_within log h first place now is s = search (arith, entries_low, le_refl)
 
 -- the step at this place of the log is of the pass of this seat
 abbrev IsOwnStep : Log → ℕ → ℕ → Type 0
-IsOwnStep log seat place = (x : Logged) × (slice_get log place ≡ Some x) × (x.seat ≡ seat)
+IsOwnStep log seat place = (x : LoggedStep) × (slice_get log place ≡ Some x) × (x.seat ≡ seat)
 
 -- the first step of a call and its last are of its pass, and its point comes between them
-pub record IsTimed (log : Log) (seat : ℕ) (c : FinishedCall) : Type 0 where
-  pub begins : IsOwnStep log seat c.first
-  ends : IsOwnStep log seat c.last
-  pub first : c.first ≤ c.last
-  pub within : (entries_before log c.first ≤ point_at log seat c) × (point_at log seat c ≤ entries_before log c.last)
-  pub by_end : accepts c.reply ≡ true → (point_at log seat c ≡ entries_before log c.last) × (entries_before log c.last < entries_before log (c.last + 1))
+pub record IsTimed (log : Log) (seat : ℕ) (c : CompletedCall) : Type 0 where
+  pub begins : IsOwnStep log seat c.first_index
+  ends : IsOwnStep log seat c.last_index
+  pub first : c.first_index ≤ c.last_index
+  pub within : (entries_before log c.first_index ≤ point_at log seat c) × (point_at log seat c ≤ entries_before log c.last_index)
+  pub by_end : accepts c.reply ≡ true → (point_at log seat c ≡ entries_before log c.last_index) × (entries_before log c.last_index < entries_before log (c.last_index + 1))
 
 -- the first step of a call is of the pass that makes the call
 first_own : (log : Log) (seat : ℕ) (h : Pending) (first place : ℕ) → IsOwnStep log seat place → (h ≢ NoCall → IsOwnStep log seat first)
-    → IsOwnStep log seat (first_place h first place)
+    → IsOwnStep log seat (begun_index h first place)
 first_own log seat h first place here was = search (arith, holding, collecting, checking)
 
--- the finished calls of a pass come one after another, and before the one under way
-pub record InTurn (log : Log) (seat : ℕ) (d : ClientState) : Type 0 where
-  pub timed : (k : ℕ) (a : FinishedCall) → slice_get d.calls k ≡ Some a → IsTimed log seat a
-  pub turns : (k l : ℕ) (a b : FinishedCall) → slice_get d.calls k ≡ Some a → slice_get d.calls l ≡ Some b → k < l → a.last < b.first
-  pub under : d.held ≢ NoCall → IsOwnStep log seat d.first × ((k : ℕ) (a : FinishedCall) → slice_get d.calls k ≡ Some a → a.last < d.first)
-  noted : Noted log d.first d.held
+-- the completed calls of a pass come one after another, and before the one under way
+pub record InTurn (log : Log) (seat : ℕ) (d : LocalState) : Type 0 where
+  pub timed : (k : ℕ) (a : CompletedCall) → slice_get d.calls k ≡ Some a → IsTimed log seat a
+  pub turns : (k l : ℕ) (a b : CompletedCall) → slice_get d.calls k ≡ Some a → slice_get d.calls l ≡ Some b → k < l → a.last_index < b.first_index
+  pub under : d.held ≢ NoCall → IsOwnStep log seat d.first_index × ((k : ℕ) (a : CompletedCall) → slice_get d.calls k ≡ Some a → a.last_index < d.first_index)
+  noted : Noted log d.first_index d.held
 
 -- in a log the calls of each pass come one after another
 abbrev pub AllInTurn : Log → Type 0
-AllInTurn log = (seat : ℕ) → InTurn log seat (client_at seat log)
+AllInTurn log = (seat : ℕ) → InTurn log seat (local_at seat log)
 
 -- the step in which a call ended is one of the log
-pub last_below : (log : Log) (seat : ℕ) (c : FinishedCall) → IsTimed log seat c → c.last < length log
-last_below log seat c t = at_below log c.last t.ends.0 t.ends.1
+pub last_below : (log : Log) (seat : ℕ) (c : CompletedCall) → IsTimed log seat c → c.last_index < length log
+last_below log seat c t = at_below log c.last_index t.ends.0 t.ends.1
 
 -- a call that is under way began with a step of the log
-pub under_below : (log : Log) (seat : ℕ) (d : ClientState) → InTurn log seat d → d.held ≢ NoCall → d.first < length log
-under_below log seat d t some = let own = (t.under some).0 in at_below log d.first own.0 own.1
+pub under_below : (log : Log) (seat : ℕ) (d : LocalState) → InTurn log seat d → d.held ≢ NoCall → d.first_index < length log
+under_below log seat d t some = let own = (t.under some).0 in at_below log d.first_index own.0 own.1
 
 -- a log with one step more
-module _ (log : Log) (x : Logged) where
+module _ (log : Log) (x : LoggedStep) where
   pub begins : IsPrefix (history_of log) (history_of (log ++ x ∷ []))
   begins = (entry_list x.step.entry, sym (history_more log x))
 
@@ -221,32 +221,32 @@ module _ (log : Log) (x : Logged) where
   own_later seat place own = (own.0, at_longer log (x ∷ []) place own.0 own.1, own.2)
 
   -- a call keeps its point
-  pub point_same : (seat : ℕ) (c : FinishedCall) → c.last < length log → point_at (log ++ x ∷ []) seat c ≡ point_at log seat c
-  point_same seat c below = ap (λ (l : Log). point_of (client_at seat l).held (length (history_of l))) (take-append-le c.last log (x ∷ []) (omega arith))
+  pub point_same : (seat : ℕ) (c : CompletedCall) → c.last_index < length log → point_at (log ++ x ∷ []) seat c ≡ point_at log seat c
+  point_same seat c below = ap (λ (l : Log). point_of (local_at seat l).held (length (history_of l))) (take-append-le c.last_index log (x ∷ []) (omega arith))
 
-  pub pointed_same : (seat : ℕ) (c : FinishedCall) → IsTimed log seat c → pointed (log ++ x ∷ []) seat c ≡ pointed log seat c
+  pub pointed_same : (seat : ℕ) (c : CompletedCall) → IsTimed log seat c → pointed (log ++ x ∷ []) seat c ≡ pointed log seat c
   pointed_same seat c t =
       let below = last_below log seat c t in
       let first = t.first in
       let point = point_same seat c below in
-      let begun = entries_same log (x ∷ []) c.first (omega arith) in
-      let ended = entries_same log (x ∷ []) (c.last + 1) (omega arith) in
-      λ k. record { number = c.number; call = c.call; reply = c.reply; point = point k; first = c.first; last = c.last; begun = begun k; ended = ended k }
+      let begun = entries_same log (x ∷ []) c.first_index (omega arith) in
+      let ended = entries_same log (x ∷ []) (c.last_index + 1) (omega arith) in
+      λ k. record { number = c.number; call = c.call; reply = c.reply; point = point k; first_index = c.first_index; last_index = c.last_index; begun = begun k; ended = ended k }
 
   -- and its times
-  timed_later : (seat : ℕ) (c : FinishedCall) → IsTimed log seat c → IsTimed (log ++ x ∷ []) seat c
+  timed_later : (seat : ℕ) (c : CompletedCall) → IsTimed log seat c → IsTimed (log ++ x ∷ []) seat c
   timed_later seat c t =
       let below = last_below log seat c t in
       let first = t.first in
       let low = t.within.0 in
       let high = t.within.1 in
       let point = point_same seat c below in
-      let same_first = entries_same log (x ∷ []) c.first (omega arith) in
-      let same_last = entries_same log (x ∷ []) c.last (omega arith) in
-      let same_end = entries_same log (x ∷ []) (c.last + 1) (omega arith) in
+      let same_first = entries_same log (x ∷ []) c.first_index (omega arith) in
+      let same_last = entries_same log (x ∷ []) c.last_index (omega arith) in
+      let same_end = entries_same log (x ∷ []) (c.last_index + 1) (omega arith) in
       record {
-        begins = own_later seat c.first t.begins;
-        ends = own_later seat c.last t.ends;
+        begins = own_later seat c.first_index t.begins;
+        ends = own_later seat c.last_index t.ends;
         first = t.first;
         within = (omega arith, omega arith);
         by_end = λ made. let at = (t.by_end made).0 in let grows = (t.by_end made).1 in (omega arith, omega arith);
@@ -256,56 +256,56 @@ module _ (log : Log) (x : Logged) where
   noted_later : (first : ℕ) (h : Pending) → (h ≢ NoCall → first < length log) → Noted log first h → Noted (log ++ x ∷ []) first h
   noted_later first h low s = search (arith, checking, entries_same log (x ∷ []) first, begins_length (history_of log) (history_of (log ++ x ∷ [])) begins)
 
-  turn_later : (seat : ℕ) (d : ClientState) → InTurn log seat d → InTurn (log ++ x ∷ []) seat d
+  turn_later : (seat : ℕ) (d : LocalState) → InTurn log seat d → InTurn (log ++ x ∷ []) seat d
   turn_later seat d t = record {
     timed = λ k a at. timed_later seat a (t.timed k a at);
     turns = t.turns;
-    under = λ some. (own_later seat d.first (t.under some).0, (t.under some).1);
-    noted = noted_later d.first d.held (under_below log seat d t) t.noted;
+    under = λ some. (own_later seat d.first_index (t.under some).0, (t.under some).1);
+    noted = noted_later d.first_index d.held (under_below log seat d t) t.noted;
   }
 
   -- a step in its place
-  module _ (place_is : x.step.place ≡ length log) (at_is : x.step.at ≡ length (history_of log)) where
+  module _ (place_is : x.step.index ≡ length log) (at_is : x.step.length ≡ length (history_of log)) where
     -- the point of a call that it ends
-    pub point_new : (reply : Reply) → point_at (log ++ x ∷ []) x.seat (call_answered reply x.step (client_at x.seat log)) ≡ point_of (client_at x.seat log).held x.step.at
-    point_new reply = ap (λ (l : Log). point_of (client_at x.seat l).held (length (history_of l))) (ap (λ (n : ℕ). take n (log ++ x ∷ [])) place_is ∙ take-append_seam log (x ∷ []))
-        ∙ ap (point_of (client_at x.seat log).held) (sym at_is)
+    pub point_new : (reply : Reply) → point_at (log ++ x ∷ []) x.seat (call_answered reply x.step (local_at x.seat log)) ≡ point_of (local_at x.seat log).held x.step.length
+    point_new reply = ap (λ (l : Log). point_of (local_at x.seat l).held (length (history_of l))) (ap (λ (n : ℕ). take n (log ++ x ∷ [])) place_is ∙ take-append_seam log (x ∷ []))
+        ∙ ap (point_of (local_at x.seat log).held) (sym at_is)
 
-  module _ (place_is : x.step.place ≡ length log) (at_is : x.step.at ≡ length (history_of log)) (t : InTurn log x.seat (client_at x.seat log)) where
-    abbrev d : ClientState
-    d = client_at x.seat log
+  module _ (place_is : x.step.index ≡ length log) (at_is : x.step.length ≡ length (history_of log)) (t : InTurn log x.seat (local_at x.seat log)) where
+    abbrev d : LocalState
+    d = local_at x.seat log
 
     -- the first step of the call under way is no later than this step, and of this seat
-    first_is : first_place d.held d.first x.step.place ≤ x.step.place
-    first_is = first_low d.held d.first x.step.place (λ some. let low = under_below log x.seat d t some in omega arith)
+    first_is : begun_index d.held d.first_index x.step.index ≤ x.step.index
+    first_is = first_low d.held d.first_index x.step.index (λ some. let low = under_below log x.seat d t some in omega arith)
 
-    begins_here : IsOwnStep (log ++ x ∷ []) x.seat (first_place d.held d.first x.step.place)
-    begins_here = first_own (log ++ x ∷ []) x.seat d.held d.first x.step.place (x, ap (slice_get (log ++ x ∷ [])) place_is ∙ at_end log x, refl)
-        (λ some. own_later x.seat d.first (t.under some).0)
+    begins_here : IsOwnStep (log ++ x ∷ []) x.seat (begun_index d.held d.first_index x.step.index)
+    begins_here = first_own (log ++ x ∷ []) x.seat d.held d.first_index x.step.index (x, ap (slice_get (log ++ x ∷ [])) place_is ∙ at_end log x, refl)
+        (λ some. own_later x.seat d.first_index (t.under some).0)
 
     -- all calls that were finished ended before it
-    after_all : (k : ℕ) (a : FinishedCall) → slice_get d.calls k ≡ Some a → a.last < first_place d.held d.first x.step.place
+    after_all : (k : ℕ) (a : CompletedCall) → slice_get d.calls k ≡ Some a → a.last_index < begun_index d.held d.first_index x.step.index
     after_all k a at = let below = last_below log x.seat a (t.timed k a at) in
-        first_after d.held d.first x.step.place a.last (omega arith) (λ some. (t.under some).1 k a at)
+        first_after d.held d.first_index x.step.index a.last_index (omega arith) (λ some. (t.under some).1 k a at)
 
     -- a call that is accepted by this step has its entry, and its point now
-    added : (reply : Reply) → AddsBy d.held x.step.at x.step.entry (Answers reply) → accepts reply ≡ true
-        → ((e : Entry) × (x.step.entry ≡ Some e)) × (point_of d.held x.step.at ≡ x.step.at)
+    added : (reply : Reply) → AddsBy d.held x.step.length x.step.entry (Answers reply) → accepts reply ≡ true
+        → ((e : Entry) × (x.step.entry ≡ Some e)) × (point_of d.held x.step.length ≡ x.step.length)
     added (Accepted accepted) adds made = adds
     added reply adds made = absurd (false≢true made)
 
     -- a call that this step ends has its first step, its last and its point in order
-    timed_now : (reply : Reply) → AddsBy d.held x.step.at x.step.entry (Answers reply) → IsTimed (log ++ x ∷ []) x.seat (call_answered reply x.step d)
+    timed_now : (reply : Reply) → AddsBy d.held x.step.length x.step.entry (Answers reply) → IsTimed (log ++ x ∷ []) x.seat (call_answered reply x.step d)
     timed_now reply adds =
-        let first = first_place d.held d.first x.step.place in
+        let first = begun_index d.held d.first_index x.step.index in
         let low = first_is in
         let long = length_push log x in
-        let point = point_within log d.held d.first x.step.place x.step.at at_is t.noted in
+        let point = point_within log d.held d.first_index x.step.index x.step.length at_is t.noted in
         let early = point.0 in
         let late = point.1 in
         let same = entries_same log (x ∷ []) first (omega arith) in
-        let now = entries_same log (x ∷ []) x.step.place (omega arith) ∙ (ap (entries_before log) place_is ∙ entries_all log) in
-        let end : x.step.place + 1 ≡ length (log ++ x ∷ []) = omega arith in
+        let now = entries_same log (x ∷ []) x.step.index (omega arith) ∙ (ap (entries_before log) place_is ∙ entries_all log) in
+        let end : x.step.index + 1 ≡ length (log ++ x ∷ []) = omega arith in
         let all = ap (entries_before (log ++ x ∷ [])) end ∙ entries_all (log ++ x ∷ []) in
         let more = ap length (history_more log x) ∙ length-append (history_of log) (entry_list x.step.entry) in
         let is = point_new place_is at_is reply in
@@ -322,7 +322,7 @@ module _ (log : Log) (x : Logged) where
         }
 
     -- after a step the calls of its pass come one after another as before
-    outcome_in_turn : (o : Outcome) → NotedBy (log ++ x ∷ []) (first_place d.held d.first x.step.place) o → AddsBy d.held x.step.at x.step.entry o
+    outcome_in_turn : (o : Outcome) → NotedBy (log ++ x ∷ []) (begun_index d.held d.first_index x.step.index) o → AddsBy d.held x.step.length x.step.entry o
         → InTurn (log ++ x ∷ []) x.seat (with_outcome o x.step d)
     outcome_in_turn (GoesOn held) noted adds =
         record { timed = λ k a at. timed_later x.seat a (t.timed k a at); turns = t.turns; under = λ _. (begins_here, after_all); noted = noted }
@@ -336,7 +336,7 @@ module _ (log : Log) (x : Logged) where
           turns = λ k l a b at bt less. elim (at_either d.calls c l b bt) [
             | inl v ↦ elim (at_either d.calls c k a at) [ inl u ↦ t.turns k l a b u.1 v.1 less | inr u ↦ let e = u.0 in let low = v.0 in absurd (omega arith) ]
             | inr v ↦ elim (at_either d.calls c k a at) [
-              | inl u ↦ subst (λ (z : FinishedCall). a.last < z.first) v.1 (after_all k a u.1)
+              | inl u ↦ subst (λ (z : CompletedCall). a.last_index < z.first_index) v.1 (after_all k a u.1)
               | inr u ↦ let e = u.0 in let f = v.0 in absurd (omega arith)
             ]
           ];
@@ -345,41 +345,41 @@ module _ (log : Log) (x : Logged) where
         }
 
     -- after a step the calls of its pass are in turn, by the step's outcome
-    by_outcome : (target : Target) → x.step.entry ≡ entry_by d.number d.held target
-        → InTurn (log ++ x ∷ []) x.seat (with_outcome (outcome d.number d.held target x.step.at) x.step d)
-    by_outcome target is =
-        let o = outcome d.number d.held target x.step.at in
+    by_outcome : (action : Action) → x.step.entry ≡ entry_by d.number d.held action
+        → InTurn (log ++ x ∷ []) x.seat (with_outcome (outcome d.number d.held action x.step.length) x.step d)
+    by_outcome action is =
+        let o = outcome d.number d.held action x.step.length in
         let low = first_is in
-        let first = first_place d.held d.first x.step.place in
+        let first = begun_index d.held d.first_index x.step.index in
         let same = entries_same log (x ∷ []) first (omega arith) in
         let before = entries_low log first in
         let long = begins_length (history_of log) (history_of (log ++ x ∷ [])) begins in
-        let adds : AddsBy d.held x.step.at x.step.entry o = subst (λ (z : Option Entry). AddsBy d.held x.step.at z o) (sym is)
-        (adds_by d.number d.held target x.step.at) in
-        outcome_in_turn o (noted_by (log ++ x ∷ []) d.first x.step.place d.number x.step.at d.held target (omega arith) (omega arith)
-        (noted_later d.first d.held (under_below log x.seat d t) t.noted)) adds
+        let adds : AddsBy d.held x.step.length x.step.entry o = subst (λ (z : Option Entry). AddsBy d.held x.step.length z o) (sym is)
+        (adds_by d.number d.held action x.step.length) in
+        outcome_in_turn o (noted_by (log ++ x ∷ []) d.first_index x.step.index d.number x.step.length d.held action (omega arith) (omega arith)
+        (noted_later d.first_index d.held (under_below log x.seat d t) t.noted)) adds
 
-    step_in_turn : (target : Target) → IsNextFor d target → x.step.entry ≡ entry_by d.number d.held target → InTurn (log ++ x ∷ []) x.seat (with_target target x.step d)
+    step_in_turn : (action : Action) → IsNextFor d action → x.step.entry ≡ entry_by d.number d.held action → InTurn (log ++ x ∷ []) x.seat (with_action action x.step d)
     step_in_turn (Match kind game found) next is = by_outcome (Match kind game found) is
-    step_in_turn (Enlisted found) next is = by_outcome (Enlisted found) is
-    step_in_turn (Enlists found) next is =
+    step_in_turn (CountRead found) next is = by_outcome (CountRead found) is
+    step_in_turn (CountRaised found) next is =
         let u = turn_later x.seat d t in
         record { timed = u.timed; turns = u.turns; under = u.under; noted = u.noted }
     step_in_turn (Whole shown) next is = absurd next
 
--- a finished call stays where it is among those of its pass
-pub calls_kept : (target : Target) (y : Taken) (d : ClientState) (k : ℕ) (a : FinishedCall) → slice_get d.calls k ≡ Some a → slice_get (with_target target y d).calls k ≡ Some a
-calls_kept target y d k a at = search (arith, at_longer)
+-- a completed call stays where it is among those of its pass
+pub calls_kept : (action : Action) (y : TakenStep) (d : LocalState) (k : ℕ) (a : CompletedCall) → slice_get d.calls k ≡ Some a → slice_get (with_action action y d).calls k ≡ Some a
+calls_kept action y d k a at = search (arith, at_longer)
 
 -- in a log with one step more the calls of each pass come one after another
-next_in_turn : (log : Log) (x : Logged) → AllInTurn log → MayBeTaken log x → IsNextOfProtocol log x → AllInTurn (log ++ x ∷ [])
+next_in_turn : (log : Log) (x : LoggedStep) → AllInTurn log → MayBeTaken log x → IsNextOfProtocol log x → AllInTurn (log ++ x ∷ [])
 next_in_turn log x r may next =
-    let d = client_at x.seat log in
-    by_seat log x (InTurn (log ++ x ∷ [])) (with_step d x.step) refl (step_in_turn log x may.place.0 may.place.1 (r x.seat) x.step.target next.next next.entry)
-    (λ seat not. turn_later log x seat (client_at seat log) (r seat))
+    let d = local_at x.seat log in
+    by_seat log x (InTurn (log ++ x ∷ [])) (with_step d x.step) refl (step_in_turn log x may.index may.length (r x.seat) x.step.action next.next next.entry)
+    (λ seat not. turn_later log x seat (local_at seat log) (r seat))
 
 -- in each log that follows the protocol the calls of each pass come in turn
-pub all_in_turn : (log : Log) → IsLog log → FollowsProtocol log → AllInTurn log
+pub all_in_turn : (log : Log) → IsWellFormedLog log → FollowsProtocol log → AllInTurn log
 all_in_turn log = may_induction MayBeTaken (λ l. FollowsProtocol l → AllInTurn l)
     (λ f seat. record {
       timed = λ k a at. absurd (none-some a at);

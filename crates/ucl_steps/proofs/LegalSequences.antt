@@ -14,7 +14,7 @@ use Rattle.ucl_word.specs.declared.refusal.Refusal.{Refusal}
 use Rattle.ucl_board.specs.History.{followed_by}
 use Rattle.ucl_board.proofs.HistoryTheorems.{begins_more, begins_same, begins_through}
 use Rattle.ucl_steps.specs.BoardObject.{BoardEvent, board_object, object_entries, object_reply}
-use Rattle.ucl_steps.specs.Linearizability.{IsLinearization, IsObjectRun, IsOperation, Operation, state_after}
+use Rattle.ucl_steps.specs.Linearizability.{IsLinearization, IsLegalSequence, IsOperation, Operation, state_after}
 use Rattle.ucl_steps.specs.Protocol.{report_reply}
 
 -- a report is accepted if the rules say so
@@ -44,7 +44,7 @@ abbrev pub entries_by : List Entry → List (Operation (ℕ × Call) Reply) → 
 entries_by h run = state_after board_object h run
 
 -- each reply is that of the board after the operations before it
-pub reply_at : (h : List Entry) (run : List (Operation (ℕ × Call) Reply)) → IsObjectRun board_object h run → (i : ℕ) (o : Operation (ℕ × Call) Reply)
+pub reply_at : (h : List Entry) (run : List (Operation (ℕ × Call) Reply)) → IsLegalSequence board_object h run → (i : ℕ) (o : Operation (ℕ × Call) Reply)
     → slice_get run i ≡ Some o → o.reply ≡ object_reply (entries_by h (take i run)) o.call.1
 reply_at h [] legal i o at = absurd (none-some o at)
 reply_at h (x ∷ run) legal zero o at = subst (λ (y : Operation (ℕ × Call) Reply). y.reply ≡ object_reply h y.call.1) (same_Some x o at) legal.0
@@ -67,7 +67,7 @@ entries_grow h (x ∷ run) (suc i) zero le = absurd (omega arith)
 entries_grow h (x ∷ run) (suc i) (suc j) le = entries_grow (object_entries h x.call.0 x.call.1) run i j (omega arith)
 
 -- an accepted report adds its entry to those of the operations before it
-pub adds_at : (h : List Entry) (run : List (Operation (ℕ × Call) Reply)) → IsObjectRun board_object h run → (i : ℕ) (o : Operation (ℕ × Call) Reply) (e : EventCall)
+pub adds_at : (h : List Entry) (run : List (Operation (ℕ × Call) Reply)) → IsLegalSequence board_object h run → (i : ℕ) (o : Operation (ℕ × Call) Reply) (e : EventCall)
     → slice_get run i ≡ Some o → o.call.1 ≡ Event e → accepts o.reply ≡ true
     → entries_by h (take (suc i) run) ≡ followed_by (entries_by h (take i run)) (entry_of o.call.0 e)
 adds_at h [] legal i o e at asked made = absurd (none-some o at)
@@ -109,7 +109,7 @@ module _ (h : List Entry) where
 
   -- calls with points from n on are a run of the board of one thread from the first n entries on
   sequential : (place : Done → ℕ) (list : List Done) (n : ℕ) → PointsFrom n list → Each (λ e. IsExplained h e.call) list
-      → IsObjectRun board_object (take n h) (map (operation_with place) list)
+      → IsLegalSequence board_object (take n h) (map (operation_with place) list)
   sequential place [] n points each = tt
   sequential place (d ∷ list) n points each =
       let c = d.call in
@@ -118,7 +118,7 @@ module _ (h : List Entry) where
       let reply = subst (λ (m : ℕ). c.reply ≡ object_reply (take m h) c.call) points.0 (s.answer ∙ reply_is h c.point c.call (omega arith)) in
       let left = subst (λ (m : ℕ). object_entries (take m h) c.number c.call ≡ take (m + size d) h) points.0 (entries_then d s) in
       let rest = sequential place list (n + size d) points.1 (λ q. each (suc q)) in
-      (reply, subst (λ (entries : List Entry). IsObjectRun board_object entries (map (operation_with place) list)) (sym left) rest)
+      (reply, subst (λ (entries : List Entry). IsLegalSequence board_object entries (map (operation_with place) list)) (sym left) rest)
 
   -- and they leave as many entries more as they made
   pub leaves : (place : Done → ℕ) (list : List Done) (n : ℕ) → PointsFrom n list → Each (λ e. IsExplained h e.call) list
@@ -145,7 +145,7 @@ to_map f xs k x at = slice_get-map f xs k ∙ ap (option_map f) at
 module _ (h : List Entry) (es : List BoardEvent) (list : List Done) (place : Done → ℕ) (pairs : Pairs list) (points : PointsFrom 0 list)
     (explained : Each (λ e. IsExplained h e.call) list)
     (made : (q : ℕ) (d : Done) → slice_get list q ≡ Some d → (n : ℕ) × IsOperationAt es n (operation_with place d)
-    × ((p : ℕ) (e : Done) → slice_get list p ≡ Some e → n < place e → d.call.last < e.call.first))
+    × ((p : ℕ) (e : Done) → slice_get list p ≡ Some e → n < place e → d.call.last_index < e.call.first_index))
     (all : (o : Operation (ℕ × Call) Reply) → IsOperation es o → (q : ℕ) × (d : Done) × (slice_get list q ≡ Some d) × (operation_with place d ≡ o))
     (one : (i j : ℕ) (x y : Done) → slice_get list i ≡ Some x → slice_get list j ≡ Some y → operation_with place x ≡ operation_with place y → (x.seat ≡ y.seat) × (x.turn ≡ y.turn)) where
   -- a call has one place
@@ -180,7 +180,7 @@ module _ (h : List Entry) (es : List BoardEvent) (list : List Done) (place : Don
         let steps = m.2 j y.0 y.1 (omega arith) in
         elim (cases_order i j) [
           | inl same ↦
-              let firsts = ap (λ (z : Done). z.call.first) (same_Some x.0 y.0 (sym x.1 ∙ (ap (slice_get list) same ∙ y.1))) in
+              let firsts = ap (λ (z : Done). z.call.first_index) (same_Some x.0 y.0 (sym x.1 ∙ (ap (slice_get list) same ∙ y.1))) in
               let turn = (explained i x.0 x.1).turn in
               absurd (omega arith)
           | inr not ↦ elim not [
