@@ -1,7 +1,6 @@
 -- The board of one thread as a sequential object (Linearizability.antt), and what it is that the calls of a log are linearizable.
 -- The processes of a log are its passes, each by its seat. What a pass asks goes with its number, which is 0 for a reader.
--- There are two clocks: a call is `invoked` and `answered` at places of a history of calls, and its `first` and `last` step are at places of
--- the log.
+-- A call is `invoked` and `answered` at places of a history of calls; `first_index` and `last_index` are where its steps stand in the log.
 use Rattle.std.specs.Prelude.{◌≡◌, ◌↔◌, ℕ, ◌<◌, List, [], All, length}
 use Rattle.ucl_board.specs.declared.entry.Entry.{Entry}
 use Rattle.ucl_board.specs.History.{IsLegal, board_of, sequential_reply, attempted, after_attempt}

@@ -1,4 +1,4 @@
--- Strong linearizability of logs (Linearizability.antt): when a log grows longer, reports stay in their places, but readings may move.
+-- Strong linearizability of logs (Linearizability.antt): when a log grows longer, reports keep their places, but readings may move.
 -- If only the writes are fixed, here the reports, it is write strong-linearizability (Hadzilacos, Hu and Toueg 2021).
 use Rattle.std.specs.Prelude.{ℕ, Bool, true, false, List}
 use Rattle.ucl_log.specs.Log.{Log, IsWellFormedLog}
