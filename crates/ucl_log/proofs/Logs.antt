@@ -93,8 +93,10 @@ below_more n m log le all k d l = let h = all k d l in omega arith
 
 -- the steps of a seat in a log that begins with y are its steps in the rest, with y's step before them if y is of this seat (b is true)
 first_taken : (seat : ℕ) (y : LoggedStep) (log : Log) (b : Bool) → (y.seat == seat) ≡ b → taken_by seat (y ∷ log) ≡ cond b (y.step ∷ taken_by seat log) (taken_by seat log)
-first_taken seat y log true is = ap (λ (c : Bool). map (λ (z : LoggedStep). z.step) (cond c (y ∷ filter (λ (z : LoggedStep). z.seat == seat) log) (filter (λ (z : LoggedStep). z.seat == seat) log))) is
-first_taken seat y log false is = ap (λ (c : Bool). map (λ (z : LoggedStep). z.step) (cond c (y ∷ filter (λ (z : LoggedStep). z.seat == seat) log) (filter (λ (z : LoggedStep). z.seat == seat) log))) is
+first_taken seat y log true is = ap (λ (c : Bool). map (λ (z : LoggedStep). z.step)
+    (cond c (y ∷ filter (λ (z : LoggedStep). z.seat == seat) log) (filter (λ (z : LoggedStep). z.seat == seat) log))) is
+first_taken seat y log false is = ap (λ (c : Bool). map (λ (z : LoggedStep). z.step)
+    (cond c (y ∷ filter (λ (z : LoggedStep). z.seat == seat) log) (filter (λ (z : LoggedStep). z.seat == seat) log))) is
 
 -- each step of a log is among the steps of its own seat
 in_taken : (log : Log) (k : ℕ) (x : LoggedStep) → slice_get log k ≡ Some x → (j : ℕ) × (slice_get (taken_by x.seat log) j ≡ Some x.step)
