@@ -9,7 +9,7 @@ pub use Rattle.std.proofs.lemmas.List.Elements.{All-append, All-cons, All-head, 
 pub use Rattle.std.specs.Prelude.{All, IsSome, Option, IsTrue, None, Some, filter, not, ◌&&◌}
 pub use Rattle.ucl_board.proofs.HistoryTheorems.{begins_length, begins_more, begins_none, begins_same, begins_take, begins_through}
 pub use Rattle.ucl_board.specs.History.{IsLegal, MayFollow, followed_by}
-pub use Rattle.ucl_log.specs.Log.{CountRaised, IsLegalRule, IsWellFormedLog, ReadsCurrent, Log, LoggedStep, MayBeTaken, TakenStep, Action, added_by, enlisted_by}
+pub use Rattle.ucl_log.specs.Log.{CountRaised, IsLegalRule, IsConsistentLog, ReadsCurrent, Log, LoggedStep, MayBeTaken, TakenStep, Action, added_by, enlisted_by}
 pub use Rattle.ucl_log.specs.Log.{enlists, entry_list, history_of, logged_by, number_by, number_of, step_taken, taken_by}
 pub use Rattle.ucl_board.specs.Words.{max_version}
 pub use Rattle.ucl_board.specs.declared.entry.Entry.{Entry}

@@ -2,7 +2,7 @@
 use Rattle.ucl_live_board.proofs.Common.{◌≡◌, ◌≢◌, ⊎_elim, ℕ, zero, suc, ◌<◌, Bool, true, false, List, ◌∷◌, ◌++◌, length, map, set, refl, sym, ap, ◌∙◌, subst}
 use Rattle.ucl_live_board.proofs.Common.{arith, append-nil, [], length-set, All, Some, IsTrue, All-head, All-cons, All-nil, IsPrefix, dite, some, get_elem?}
 use Rattle.ucl_live_board.proofs.Common.{ℕ_discrete, set_here, set_else, Entry, TakenStep, LoggedStep, logged_by, Log, taken_by, number_of, history_of, enlisted_by}
-use Rattle.ucl_live_board.proofs.Common.{IsWellFormedLog, IsLegalRule, View, Overlap, first_pass, BoardInvariant, BoardsOpenFresh, StepsComeLast, LastStepsSeeAll}
+use Rattle.ucl_live_board.proofs.Common.{IsConsistentLog, IsLegalRule, View, Overlap, first_pass, BoardInvariant, BoardsOpenFresh, StepsComeLast, LastStepsSeeAll}
 use Rattle.ucl_live_board.proofs.Common.{NumbersAreApart, IsHeld, Covers, HoldersDidAll}
 use Rattle.std.proofs.Common.{◌≤◌}
 use Rattle.std.proofs.lemmas.List.{append_cancel_left}
@@ -38,7 +38,7 @@ module _ (words_after : List Entry → ℕ → List ℕ) (May : Log → LoggedSt
   pub last_sees_all : LastStepsSeeAll words_after May
   last_sees_all words views r before seat x v is here =
       let f = r.fits seat v here in
-      knows_all v.log before (logged_by seat x) (subst IsWellFormedLog is r.is_log) (subst (IsPrefix v.log) is f.knows) (sym f.own.0 ∙ (f.own.1 ∙ ap (taken_by seat) is)) ∙ sym is
+      knows_all v.log before (logged_by seat x) (subst IsConsistentLog is r.is_log) (subst (IsPrefix v.log) is f.knows) (sym f.own.0 ∙ (f.own.1 ∙ ap (taken_by seat) is)) ∙ sym is
 
 -- a log is empty if only seat 0 could take steps, and it took none
 no_steps : (log : Log) → All (λ (x : LoggedStep). x.seat < 1) log → taken_by 0 log ≡ [] → log ≡ []

@@ -2,7 +2,7 @@
 use Rattle.ucl_live_board.proofs.Common.{◌≡◌, ℕ, ◌+◌, ◌≤◌, List, ◌∷◌, ◌++◌, length, Option, Some, None, refl, sym, ap, ◌∙◌, subst, arith, [], append-nil}
 use Rattle.ucl_live_board.proofs.Common.{length-append, All, IsSome, IsPrefix, begins_through, nil_from_length, Entry, IsLegal, followed_by, Action, CountRaised}
 use Rattle.ucl_live_board.proofs.Common.{TakenStep, step_taken, logged_by, Log, taken_by, entry_list, added_by, number_of, number_by, history_of, enlists}
-use Rattle.ucl_live_board.proofs.Common.{enlisted_by, ReadsCurrent, IsWellFormedLog, IsLegalRule, View, whole, IsSound, entries_by, pass_view_by, Takes, BoardStep, not}
+use Rattle.ucl_live_board.proofs.Common.{enlisted_by, ReadsCurrent, IsConsistentLog, IsLegalRule, View, whole, IsSound, entries_by, pass_view_by, Takes, BoardStep, not}
 use Rattle.ucl_live_board.proofs.Common.{◌==◌}
 use Rattle.std.proofs.lemmas.List.Filters.{length-filter_both}
 use Rattle.ucl_word.specs.Counts.{EachMay}
@@ -119,8 +119,8 @@ module _ (words_after : List Entry → ℕ → List ℕ) (May : Log → Rattle.u
   there_before = subst (ReadsCurrent s.before) s.of s.may.there
 
   module _ (legal : IsLegalRule May) where
-    is_log : IsWellFormedLog w.log
-    is_log = subst IsWellFormedLog (sym log_is) (may_next MayBeTaken s.before (logged_by seat s.step) s.is_log s.may)
+    is_log : IsConsistentLog w.log
+    is_log = subst IsConsistentLog (sym log_is) (may_next MayBeTaken s.before (logged_by seat s.step) s.is_log s.may)
 
     legal_steps : HasLegalSteps w.log
     legal_steps = legal w.log is_log (subst (EachMay May) (sym log_is) (may_next May s.before (logged_by seat s.step) s.follows s.next))

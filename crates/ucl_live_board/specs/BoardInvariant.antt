@@ -7,7 +7,7 @@ use lib.ListN.{get_elem?}
 use Rattle.ucl_word.specs.Counts.{EachMay}
 use Rattle.ucl_board.specs.declared.entry.Entry.{Entry}
 use Rattle.ucl_board.specs.History.{IsLegal}
-use Rattle.ucl_log.specs.Log.{TakenStep, LoggedStep, logged_by, Log, taken_by, added_by, number_of, history_of, enlisted_by, IsWellFormedLog, LogFacts}
+use Rattle.ucl_log.specs.Log.{TakenStep, LoggedStep, logged_by, Log, taken_by, added_by, number_of, history_of, enlisted_by, IsConsistentLog, LogFacts}
 use Rattle.ucl_live_board.specs.declared.view.View.{View}
 use Rattle.ucl_live_board.specs.Shares.{whole, Overlap}
 use Rattle.ucl_live_board.specs.Views.{first_pass}
@@ -25,7 +25,7 @@ pub record ViewInvariant (log : Log) (seat : ℕ) (view : View) : Type 0 where
 -- are those of its seat there); only seats in the list took steps; and no two passes have shares that overlap
 pub record BoardInvariant (words_after : List Entry → ℕ → List ℕ) (May : Log → LoggedStep → Type 0) (words : List ℕ) (views : List View) : Type 0 where
   pub log : Log
-  pub is_log : IsWellFormedLog log
+  pub is_log : IsConsistentLog log
   pub follows : EachMay May log
   pub words_are : words ≡ words_after (history_of log) (enlisted_by log)
   pub seated : All (λ (logged : LoggedStep). logged.seat < length views) log

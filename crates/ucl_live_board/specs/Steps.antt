@@ -6,7 +6,7 @@ use Rattle.ucl_word.specs.declared.event.EventCall.{EventCall}
 use Rattle.ucl_word.specs.declared.event.Kind.TheVariants.{KickOff}
 use Rattle.ucl_word.specs.Counts.{EachMay}
 use Rattle.ucl_board.specs.declared.entry.Entry.{Entry}
-use Rattle.ucl_log.specs.Log.{Action, TakenStep, LoggedStep, Log, logged_by, taken_by, IsWellFormedLog, MayBeTaken}
+use Rattle.ucl_log.specs.Log.{Action, TakenStep, LoggedStep, Log, logged_by, taken_by, IsConsistentLog, MayBeTaken}
 use Rattle.ucl_live_board.specs.declared.view.View.{View}
 use Rattle.ucl_live_board.specs.PossibleViews.{OccursIn}
 
@@ -20,7 +20,7 @@ stepped_to before seat step v =
 -- the invariant has w at the seat
 pub record BoardStep (words_after : List Entry → ℕ → List ℕ) (May : Log → LoggedStep → Type 0) (seat : ℕ) (action : Action) (v w : View) : Type 0 where
   pub before : Log
-  pub is_log : IsWellFormedLog before
+  pub is_log : IsConsistentLog before
   pub follows : EachMay May before
   pub since : IsPrefix v.log before
   pub heard : All (λ (heard : Log). IsPrefix heard before) v.told

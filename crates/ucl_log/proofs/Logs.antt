@@ -12,7 +12,7 @@ use mathlib.Core.List.{IsPrefix}
 use Rattle.ucl_word.proofs.Sequences.{at_below, at_end, may_none, may_next, may_induction, may_begin, may_last}
 use Rattle.ucl_board.specs.declared.entry.Entry.{Entry}
 use Rattle.ucl_log.specs.Log.{TakenStep, LoggedStep, logged_by, Log, taken_by, entry_list, added_by, history_of, enlists, enlisted_by, number_by}
-use Rattle.ucl_log.specs.Log.{number_of, access_list, accesses_in, IsWellFormedLog, Action, CountRaised, ReadsCurrent, MayBeTaken, MayAdd, MayEnlist}
+use Rattle.ucl_log.specs.Log.{number_of, access_list, accesses_in, IsConsistentLog, Action, CountRaised, ReadsCurrent, MayBeTaken, MayAdd, MayEnlist}
 use Rattle.ucl_log.specs.Log.{IsLegalStep, HasLegalSteps, LogFacts}
 use Rattle.ucl_board.proofs.HistoryTheorems.{at_beginning}
 use Rattle.ucl_board.specs.History.{IsLegal, MayFollow}
@@ -127,7 +127,7 @@ of_taken seat (y ∷ log) j t at = by (of_taken seat log) (y.seat == seat) refl
     by rest false is = let u = rest j t (ap (λ (l : List TakenStep). slice_get l j) (sym (first_taken seat y log false is)) ∙ at) in (suc u.0, u.1)
 
 -- each step of a log has the right index
-index_is : (log : Log) (k : ℕ) (x : LoggedStep) → IsWellFormedLog log → slice_get log k ≡ Some x → x.step.index ≡ k
+index_is : (log : Log) (k : ℕ) (x : LoggedStep) → IsConsistentLog log → slice_get log k ≡ Some x → x.step.index ≡ k
 index_is log k x is at = let below = at_below log k x at in (is.at k x at).index ∙ length-take-le k log (omega arith)
 
 -- a log is a prefix of another one if each of its steps stands at the same place in the other
@@ -140,7 +140,7 @@ begins_by (x ∷ a) (y ∷ b) each =
     (t.0, λ i. same i ∷ t.1 i)
 
 -- a possible log is a prefix of another one if, for each seat, its steps in the one are a prefix of its steps in the other
-pub log_begins : (a b : Log) → IsWellFormedLog a → IsWellFormedLog b → ((seat : ℕ) → IsPrefix (taken_by seat a) (taken_by seat b)) → IsPrefix a b
+pub log_begins : (a b : Log) → IsConsistentLog a → IsConsistentLog b → ((seat : ℕ) → IsPrefix (taken_by seat a) (taken_by seat b)) → IsPrefix a b
 log_begins a b is_a is_b each = begins_by a b (λ k x at.
     let t = in_taken a k x at in
     let u = of_taken x.seat b t.0 x.step (at_beginning (taken_by x.seat a) (taken_by x.seat b) t.0 x.step (each x.seat) t.1) in
@@ -176,7 +176,7 @@ shorter (x ∷ a) (y ∷ b) (z ∷ log) p q le =
     (t.0, λ i. same i ∷ t.1 i)
 
 -- if a prefix of a log, `known`, has all steps that a seat took, then each of these stands in the log at a place within the prefix
-pub knows_step : (known log : Log) (k : ℕ) (x : LoggedStep) → IsWellFormedLog log → IsPrefix known log → taken_by x.seat known ≡ taken_by x.seat log → slice_get log k ≡ Some x
+pub knows_step : (known log : Log) (k : ℕ) (x : LoggedStep) → IsConsistentLog log → IsPrefix known log → taken_by x.seat known ≡ taken_by x.seat log → slice_get log k ≡ Some x
     → k < length known
 knows_step known log k x is p same at =
     let t = in_taken log k x at in
@@ -187,7 +187,7 @@ knows_step known log k x is p same at =
     omega arith
 
 -- a prefix of a log that has all steps of the seat that took the last step of the log is the whole log
-pub knows_all : (v before : Log) (x : LoggedStep) → IsWellFormedLog (before ++ x ∷ []) → IsPrefix v (before ++ x ∷ []) → taken_by x.seat v ≡ taken_by x.seat (before ++ x ∷ [])
+pub knows_all : (v before : Log) (x : LoggedStep) → IsConsistentLog (before ++ x ∷ []) → IsPrefix v (before ++ x ∷ []) → taken_by x.seat v ≡ taken_by x.seat (before ++ x ∷ [])
     → v ≡ before ++ x ∷ []
 knows_all v before x is p same =
     let below = knows_step v (before ++ x ∷ []) (length before) x is p same (at_end before x) in
@@ -349,7 +349,7 @@ facts_none = record {
 }
 
 -- the facts on reporters, their numbers and their entries hold of each possible log in which each step is legal
-pub log_facts : (log : Log) → IsWellFormedLog log → HasLegalSteps log → LogFacts log
+pub log_facts : (log : Log) → IsConsistentLog log → HasLegalSteps log → LogFacts log
 log_facts log = may_induction MayBeTaken (λ l. HasLegalSteps l → LogFacts l) (λ f. facts_none)
     (λ xs x before may was legal.
     let step = may_last IsLegalStep xs x legal in

@@ -121,9 +121,9 @@ pub record MayBeTaken (log : Log) (logged : LoggedStep) : Type 0 where
   pub there : ReadsCurrent log logged.step.action
   pub length : logged.step.length ≡ length (history_of log)
 
--- a well-formed log: each step may come next after the steps before it
-abbrev pub IsWellFormedLog : Log → Type 0
-IsWellFormedLog log = EachMay MayBeTaken log
+-- a consistent log: each step may come next after the steps before it
+abbrev pub IsConsistentLog : Log → Type 0
+IsConsistentLog log = EachMay MayBeTaken log
 
 -- the entry that a step adds, if any, may come next in the history, and has `number`, the reporter's number of the pass that took the step
 abbrev pub MayAdd : List Entry → ℕ → Option Entry → Type 0
@@ -144,10 +144,10 @@ pub record IsLegalStep (log : Log) (logged : LoggedStep) : Type 0 where
 abbrev pub HasLegalSteps : Log → Type 0
 HasLegalSteps log = EachMay IsLegalStep log
 
--- `May`, a rule on which steps may follow a log, is legal: if it allows each step of a well-formed log, then each of these steps is legal:
+-- `May`, a rule on which steps may follow a log, is legal: if it allows each step of a consistent log, then each of these steps is legal:
 -- it keeps the history legal, adds only an entry with the number of its own pass, and enlists only a pass that has no number
 abbrev pub IsLegalRule : (Log → LoggedStep → Type 0) → Type 0
-IsLegalRule May = (log : Log) → IsWellFormedLog log → EachMay May log → HasLegalSteps log
+IsLegalRule May = (log : Log) → IsConsistentLog log → EachMay May log → HasLegalSteps log
 
 -- in a log at most 255 reporters are enlisted (few); their numbers are from 1 to how many they are (low), no two seats have one number
 -- (apart), and some seat has each (given); each entry has one of these numbers (ranked); and the entries that a seat's steps added are all

@@ -4,8 +4,8 @@ use Rattle.ucl_steps.proofs.Common.{subst, arith, append-nil, cases_order, cases
 use Rattle.ucl_steps.proofs.Common.{Call, Reply, CompletedCall, IsLegal, IsPrefix}
 use Rattle.ucl_steps.proofs.Common.{All, All-append, All-cons, IsMatch, Pending, NoCall, Outcome, ◌∷◌}
 use Rattle.ucl_word.proofs.Sequences.{may_begin, may_induction, may_last}
-use Rattle.ucl_log.specs.Log.{AccessKind, Look, IsWellFormedLog, ReadsCurrent, Log, Match, MayBeTaken, Action, history_of}
-use Rattle.ucl_steps.specs.LocalState.{LocalState, FollowsProtocol, IsCompleted, IsNextFor, IsNextOfProtocol, call_asked, local_at, outcome}
+use Rattle.ucl_log.specs.Log.{AccessKind, Look, IsConsistentLog, ReadsCurrent, Log, Match, MayBeTaken, Action, history_of}
+use Rattle.ucl_steps.specs.LocalState.{LocalState, FollowsProtocol, IsCompletedCall, IsNextFor, IsNextOfProtocol, call_asked, local_at, outcome}
 use Rattle.ucl_steps.specs.Protocol.{MayAsk}
 use Rattle.ucl_steps.specs.Linearizability.{Operation, IsLinearization, IsOperation, IsWellFormed, Linearizes, is_response, state_after}
 use Rattle.ucl_steps.specs.BoardObject.{BoardEvent, CallsAreLinearizable, MayInvoke, board_object}
@@ -25,7 +25,7 @@ use Rattle.ucl_steps.proofs.Placed.{Done, Each, IsDone, IsDoneCall, as_operation
 abbrev pub linearized : Log → List (Operation (ℕ × Call) Reply)
 linearized log = map (as_operation log) (done log)
 
-module _ (log : Log) (is : IsWellFormedLog log) (follows : FollowsProtocol log) where
+module _ (log : Log) (is : IsConsistentLog log) (follows : FollowsProtocol log) where
   abbrev es : List BoardEvent
   es = call_events log
 
@@ -46,7 +46,7 @@ module _ (log : Log) (is : IsWellFormedLog log) (follows : FollowsProtocol log) 
   explained q e at = let u = all_done.are q e at in subst (IsExplained (history_of log)) u.same ((logs_have_points log is follows).explained e.seat e.turn u.call u.is)
 
   -- of two calls one ended before the other began just if its response came before the other's invocation
-  pub events_apart : (i j k l : ℕ) (a b : CompletedCall) → IsCompleted log i k a → IsCompleted log j l b → a.last_index < b.first_index → answered_at log a < events_before log b.first_index
+  pub events_apart : (i j k l : ℕ) (a b : CompletedCall) → IsCompletedCall log i k a → IsCompletedCall log j l b → a.last_index < b.first_index → answered_at log a < events_before log b.first_index
   events_apart i j k l a b at bt less =
       let s = (traces.completed i k a at).0 in
       let made = s.0.order in
@@ -54,7 +54,7 @@ module _ (log : Log) (is : IsWellFormedLog log) (follows : FollowsProtocol log) 
       let rise = events_rise log (a.last_index + 1) b.first_index (omega arith) in
       omega arith
 
-  steps_apart : (i j k l : ℕ) (a b : CompletedCall) → IsCompleted log i k a → IsCompleted log j l b → answered_at log a < events_before log b.first_index → a.last_index < b.first_index
+  steps_apart : (i j k l : ℕ) (a b : CompletedCall) → IsCompletedCall log i k a → IsCompletedCall log j l b → answered_at log a < events_before log b.first_index → a.last_index < b.first_index
   steps_apart i j k l a b at bt less = elim (cases_lt a.last_index b.first_index) [
     | inl before ↦ before
     | inr after ↦
@@ -68,7 +68,7 @@ module _ (log : Log) (is : IsWellFormedLog log) (follows : FollowsProtocol log) 
   one_turn x y u v same =
       let seat : x.seat ≡ y.seat = ap (λ (o : Operation (ℕ × Call) Reply). o.process) same in
       let at = u.is in
-      let here : IsCompleted log x.seat y.turn v.call = subst (λ (n : ℕ). IsCompleted log n y.turn v.call) (sym seat) v.is in
+      let here : IsCompletedCall log x.seat y.turn v.call = subst (λ (n : ℕ). IsCompletedCall log n y.turn v.call) (sym seat) v.is in
       let invoked = ap (λ (o : Operation (ℕ × Call) Reply). o.invoked) same in
       let x_first = ap (λ (z : PointedCall). events_before log z.first_index) u.same in
       let y_first = ap (λ (z : PointedCall). events_before log z.first_index) v.same in
@@ -87,7 +87,7 @@ module _ (log : Log) (is : IsWellFormedLog log) (follows : FollowsProtocol log) 
       ]
 
   -- an operation of the history is a completed call, in its place
-  pub call_of : (o : Operation (ℕ × Call) Reply) → IsOperation es o → (k : ℕ) × (c : CompletedCall) × IsCompleted log o.process k c × (operation_of log o.process c ≡ o)
+  pub call_of : (o : Operation (ℕ × Call) Reply) → IsOperation es o → (k : ℕ) × (c : CompletedCall) × IsCompletedCall log o.process k c × (operation_of log o.process c ≡ o)
   call_of o made =
       let a = traces.responses made.answered o.process o.reply made.response in
       let t = (traces.completed o.process a.number a.call a.is).0 in
@@ -146,7 +146,7 @@ invokes_on log seat d (Match kind game found) now next there =
     (invokes_by d.held seat d.number asked (asks_by d kind game found next there.0)) (responds_by o seat)
 invokes_on log seat d t now next there = search (arith, All-nil MayInvoke)
 
-all_may_ask : (log : Log) → IsWellFormedLog log → FollowsProtocol log → All MayInvoke (call_events log)
+all_may_ask : (log : Log) → IsConsistentLog log → FollowsProtocol log → All MayInvoke (call_events log)
 all_may_ask log = may_induction MayBeTaken (λ l. FollowsProtocol l → All MayInvoke (call_events l)) (λ f. All-nil MayInvoke)
     (λ xs x before may was f.
     let d = local_at x.seat xs in
@@ -181,6 +181,6 @@ write_strong = (
   record {
     linearizes = λ log may. linearizes log may.0 may.1;
     extends = λ log later may p. subst (λ (l : Log). IsPrefix (reports log (done log)) (reports l (done l))) p.1
-        (reports_stay log p.0 (subst IsWellFormedLog (sym p.1) may.0) (subst FollowsProtocol (sym p.1) may.1));
+        (reports_stay log p.0 (subst IsConsistentLog (sym p.1) may.0) (subst FollowsProtocol (sym p.1) may.1));
   },
 )

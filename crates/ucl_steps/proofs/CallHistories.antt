@@ -6,10 +6,10 @@ use Rattle.ucl_steps.proofs.Common.{Call, Event, Reading, Reply}
 use Rattle.ucl_steps.proofs.Common.{Pending, NoCall, Holding, Collecting, Checking, Outcome, GoesOn, Answers, CompletedCall, IsMatch}
 use Rattle.std.specs.Prelude.{not}
 use Rattle.ucl_word.proofs.Sequences.{may_induction, may_begin, may_last}
-use Rattle.ucl_log.specs.Log.{AccessKind, Look, Swap, First, Second, CountRead, CountRaised, Whole, IsWellFormedLog, ReadsCurrent, Log, LoggedStep, Match, MayBeTaken, Action}
+use Rattle.ucl_log.specs.Log.{AccessKind, Look, Swap, First, Second, CountRead, CountRaised, Whole, IsConsistentLog, ReadsCurrent, Log, LoggedStep, Match, MayBeTaken, Action}
 use Rattle.ucl_steps.specs.LocalState.{LocalState, FollowsProtocol, IsNextFor, IsNextOfProtocol, call_answered, call_asked, local_at, begun_index}
 use Rattle.ucl_steps.specs.LocalState.{next_match, outcome, with_outcome, with_step, with_action}
-use Rattle.ucl_steps.specs.LocalState.{IsCompleted}
+use Rattle.ucl_steps.specs.LocalState.{IsCompletedCall}
 use Rattle.ucl_steps.specs.Linearizability.{Invocation, Response, Operation, IsWellFormed, is_pending, process_of}
 use Rattle.ucl_steps.specs.BoardObject.{BoardEvent}
 use Rattle.ucl_steps.specs.CallEvents.{call_events_after, call_events, events_on, invocation_by, response_by}
@@ -106,7 +106,7 @@ goes_with d Second game found now is next = goes d.number d.held Second game fou
 pub record IsAnswered (whole log : Log) (process place : ℕ) : Type 0 where
   pub number : ℕ
   pub call : CompletedCall
-  pub is : IsCompleted log process number call
+  pub is : IsCompletedCall log process number call
   pub at : answered_at whole call ≡ place
 
 -- a completed call is an operation of these events, with its response after those that came before its last step
@@ -116,7 +116,7 @@ IsTraced es whole seat c = IsOperationAt es (answered_at whole c) (operation_of 
 -- these events are those of the calls of a prefix of a log: what each pass has under way, its completed calls, and no others
 pub record Traces (whole log : Log) (es : List BoardEvent) : Type 0 where
   pub way : (seat : ℕ) → HasUnderWay es seat (under_way whole (local_at seat log))
-  pub completed : (seat k : ℕ) (c : CompletedCall) → IsCompleted log seat k c → IsTraced es whole seat c
+  pub completed : (seat k : ℕ) (c : CompletedCall) → IsCompletedCall log seat k c → IsTraced es whole seat c
   pub formed : IsWellFormed es
   pub responses : (place process : ℕ) (reply : Reply) → slice_get es place ≡ Some (Response process reply) → IsAnswered whole log process place
 
@@ -159,7 +159,7 @@ module _ (whole log : Log) (x : LoggedStep) (here : events_before whole x.step.i
   -- these events are those of the calls of the log, but for what the pass of the step has under way
   record Before (es : List BoardEvent) : Type 0 where
     others : (seat : ℕ) → x.seat ≢ seat → HasUnderWay es seat (under_way whole (local_at seat log))
-    completed : (seat k : ℕ) (c : CompletedCall) → IsCompleted log seat k c → IsTraced es whole seat c
+    completed : (seat k : ℕ) (c : CompletedCall) → IsCompletedCall log seat k c → IsTraced es whole seat c
     formed : IsWellFormed es
     responses : (place process : ℕ) (reply : Reply) → slice_get es place ≡ Some (Response process reply) → IsAnswered whole log process place
 
@@ -167,7 +167,7 @@ module _ (whole log : Log) (x : LoggedStep) (here : events_before whole x.step.i
   quiet : (es : List BoardEvent) → Before es → (y : LocalState) → with_step d x.step ≡ y → y.calls ≡ d.calls → HasUnderWay es x.seat (under_way whole y) → Traces whole new_log es
   quiet es b y is same own = record {
     way = by_seat log x (λ seat z. HasUnderWay es seat (under_way whole z)) y is own b.others;
-    completed = λ seat k c at. b.completed seat k c (by_seat log x (λ i z. slice_get z.calls k ≡ Some c → IsCompleted log i k c) y is
+    completed = λ seat k c at. b.completed seat k c (by_seat log x (λ i z. slice_get z.calls k ≡ Some c → IsCompletedCall log i k c) y is
         (λ at. ap (λ (l : List CompletedCall). slice_get l k) (sym same) ∙ at) (λ i not at. at) seat at);
     formed = b.formed;
     responses = λ place process reply at. answered_later process place (b.responses place process reply at);
@@ -186,7 +186,7 @@ module _ (whole log : Log) (x : LoggedStep) (here : events_before whole x.step.i
     abbrev c0 : CompletedCall
     c0 = call_answered reply x.step d
 
-    old : (seat k : ℕ) (c : CompletedCall) → IsCompleted log seat k c → IsTraced es2 whole seat c
+    old : (seat k : ℕ) (c : CompletedCall) → IsCompletedCall log seat k c → IsTraced es2 whole seat c
     old seat k c at = let s = b.completed seat k c at in (longer es (event ∷ []) (answered_at whole c) (operation_of whole seat c) s.0, s.1)
 
     last_is : length es ≡ events_before whole (x.step.index + 1) - 1
@@ -310,7 +310,7 @@ module _ (whole log : Log) (x : LoggedStep) (here : events_before whole x.step.i
   step_traced t (Whole shown) is next there step all = absurd next
 
 -- the events of each prefix of a log that follows the protocol are those of its calls
-prefix_traced : (whole log : Log) → IsWellFormedLog log → FollowsProtocol log → IsPrefix log whole → Traces whole log (call_events log)
+prefix_traced : (whole log : Log) → IsConsistentLog log → FollowsProtocol log → IsPrefix log whole → Traces whole log (call_events log)
 prefix_traced whole log = may_induction MayBeTaken (λ l. FollowsProtocol l → IsPrefix l whole → Traces whole l (call_events l))
     (λ f p. search (arith, none-some))
     (λ xs x before may was f p.
@@ -328,5 +328,5 @@ prefix_traced whole log = may_induction MayBeTaken (λ l. FollowsProtocol l → 
     at_prefix l p = ap (λ (w : Log). events_before w (length l)) (sym p.1) ∙ events_of_prefix l p.0
 
 -- the events of each log that follows the protocol are those of its calls
-pub all_traced : (log : Log) → IsWellFormedLog log → FollowsProtocol log → Traces log log (call_events log)
+pub all_traced : (log : Log) → IsConsistentLog log → FollowsProtocol log → Traces log log (call_events log)
 all_traced log is follows = prefix_traced log log is follows ([], append-nil log)

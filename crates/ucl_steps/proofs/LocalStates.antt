@@ -8,7 +8,7 @@ use Rattle.ucl_steps.proofs.Common.{by_rules, drop, CompletedCall, accepts}
 use Rattle.std.specs.List.{fold}
 use Rattle.std.proofs.lemmas.List.Sums.{fold-append}
 use Rattle.ucl_word.proofs.Sequences.{may_induction, may_begin, may_last}
-use Rattle.ucl_log.specs.Log.{CountRead, CountRaised, First, IsWellFormedLog, Log, LoggedStep, Look, Match, MayBeTaken, Second, Swap, TakenStep, Action, Whole, entry_list}
+use Rattle.ucl_log.specs.Log.{CountRead, CountRaised, First, IsConsistentLog, Log, LoggedStep, Look, Match, MayBeTaken, Second, Swap, TakenStep, Action, Whole, entry_list}
 use Rattle.ucl_log.specs.Log.{history_of, taken_by, enlisted_by, number_by, number_of, MayEnlist, LogFacts}
 use Rattle.ucl_log.proofs.Logs.{history_append, history_more, taken_own, taken_other}
 use Rattle.ucl_steps.specs.LocalState.{LocalState, FollowsProtocol, IsNextFor, IsNextOfProtocol, with_outcome, with_action, with_step}
@@ -379,7 +379,7 @@ next_in_turn log x r may next =
     (λ seat not. turn_later log x seat (local_at seat log) (r seat))
 
 -- in each log that follows the protocol the calls of each pass come in turn
-pub all_in_turn : (log : Log) → IsWellFormedLog log → FollowsProtocol log → AllInTurn log
+pub all_in_turn : (log : Log) → IsConsistentLog log → FollowsProtocol log → AllInTurn log
 all_in_turn log = may_induction MayBeTaken (λ l. FollowsProtocol l → AllInTurn l)
     (λ f seat. record {
       timed = λ k a at. absurd (none-some a at);

@@ -6,7 +6,7 @@ use Rattle.ucl_steps.proofs.Common.{IsLegal, after, attempted, entry_of, match_a
 use Rattle.ucl_steps.proofs.Common.{CompletedCall, Outcome, GoesOn, Answers, Pending, Holding, Collecting, Checking, Copied, by_rules, reading_of}
 use Rattle.ucl_steps.proofs.Histories.{read_back}
 use Rattle.ucl_word.proofs.Sequences.{may_induction, may_begin, may_last}
-use Rattle.ucl_log.specs.Log.{AccessKind, Look, Swap, First, Second, CountRead, CountRaised, Whole, IsWellFormedLog, Log, LoggedStep, Match, MayBeTaken, TakenStep, Action, ReadsCurrent, MayAdd}
+use Rattle.ucl_log.specs.Log.{AccessKind, Look, Swap, First, Second, CountRead, CountRaised, Whole, IsConsistentLog, Log, LoggedStep, Match, MayBeTaken, TakenStep, Action, ReadsCurrent, MayAdd}
 use Rattle.ucl_log.specs.Log.{IsLegalStep, HasLegalSteps, IsLegalRule, LogFacts, history_of, number_of, taken_by}
 use Rattle.ucl_log.proofs.Logs.{log_facts, legal_history}
 use Rattle.ucl_steps.proofs.LocalStates.{by_seat, local_number, count_none, enlist_none, first_none, look_none, may_enlist, second_none}
@@ -110,7 +110,7 @@ sound_next log x may next was =
     }
 
 -- in each log that follows the protocol the steps are legal, and the rules accept each event that a pass holds on the word that it found
-pub logs_sound : (log : Log) → IsWellFormedLog log → FollowsProtocol log → IsSound log
+pub logs_sound : (log : Log) → IsConsistentLog log → FollowsProtocol log → IsSound log
 logs_sound log = may_induction MayBeTaken (λ l. FollowsProtocol l → IsSound l)
     (λ f. record { steps = may_none IsLegalStep; sees = λ seat. tt })
     (λ xs x before may was f. sound_next xs x may (may_last IsNextOfProtocol xs x f) (was (may_begin IsNextOfProtocol xs (x ∷ []) f)))
@@ -122,12 +122,12 @@ pub legal_steps : IsLegalRule IsNextOfProtocol
 legal_steps log is follows = (logs_sound log is follows).steps
 
 -- a log that follows the protocol has a legal history
-pub logs_legal : (log : Log) → IsWellFormedLog log → FollowsProtocol log → IsLegal (history_of log)
+pub logs_legal : (log : Log) → IsConsistentLog log → FollowsProtocol log → IsLegal (history_of log)
 logs_legal log is follows = legal_history log (legal_steps log is follows)
 
 -- a log that follows the protocol gives its reporters the numbers from 1 to how many they are, at most 255, each to one pass; and the
 -- entries with a number are those that its pass added
-pub logs_facts : (log : Log) → IsWellFormedLog log → FollowsProtocol log → LogFacts log
+pub logs_facts : (log : Log) → IsConsistentLog log → FollowsProtocol log → LogFacts log
 logs_facts log is follows = log_facts log is (legal_steps log is follows)
 
 -- the calls of a pass have no greater number than it has
@@ -150,7 +150,7 @@ low_step (Whole shown) y d next low = absurd next
 low_step (CountRead found) y d next low = low_outcome (outcome d.number d.held (CountRead found) y.length) y d low
 
 -- the completed calls of each pass of a log have no greater number than it has
-pub calls_low : (log : Log) → IsWellFormedLog log → FollowsProtocol log → (seat : ℕ) → LowCalls (local_at seat log)
+pub calls_low : (log : Log) → IsConsistentLog log → FollowsProtocol log → (seat : ℕ) → LowCalls (local_at seat log)
 calls_low log = may_induction MayBeTaken (λ l. FollowsProtocol l → (seat : ℕ) → LowCalls (local_at seat l))
     (λ f seat. All-nil (λ (c : CompletedCall). c.number ≤ 0))
     (λ xs x before may was f.

@@ -22,10 +22,10 @@ use Rattle.ucl_steps.proofs.Points.{point_at, point_of, pointed}
 use Rattle.ucl_steps.proofs.LogFacts.{Offers, Sees, logs_facts, logs_sound}
 use Rattle.ucl_log.proofs.Logs.{history_more, history_same, enlisted_more, below_more}
 use Rattle.ucl_log.specs.Log.{AccessKind, Look, Swap, First, Second, Action, Match, CountRead, CountRaised, TakenStep, LoggedStep, Log, history_of, enlists, enlisted_by}
-use Rattle.ucl_log.specs.Log.{ReadsCurrent, MayBeTaken, IsWellFormedLog, Whole, LogFacts, entry_list}
+use Rattle.ucl_log.specs.Log.{ReadsCurrent, MayBeTaken, IsConsistentLog, Whole, LogFacts, entry_list}
 use Rattle.ucl_steps.specs.LocalState.{LocalState, local_at, outcome, with_outcome, with_step, next_match, IsNextFor, entry_by}
 use Rattle.ucl_steps.specs.LocalState.{IsNextOfProtocol, FollowsProtocol, call_asked, call_answered}
-use Rattle.ucl_steps.specs.LocalState.{IsCompleted}
+use Rattle.ucl_steps.specs.LocalState.{IsCompletedCall}
 use Rattle.ucl_steps.specs.LogRuns.{caller_for, cast_for, ends_by, steps_on, steps_after, machine_steps, LongerLogsAreLongerRuns}
 use Rattle.ucl_steps.specs.LogRuns.{HoldsAs, LogsAreRuns}
 
@@ -329,7 +329,7 @@ pub record Leads (readers : ℕ) (log : Log) : Type 0 where
   pub state : MachineState
   pub run : after_steps (machine_steps log) (initial_state (cast_for readers)) ≡ Some state
   pub history_is : state.history ≡ history_of log
-  pub settled : (seat k : ℕ) (c : CompletedCall) → IsCompleted log seat k c → IsSettledIn log seat c
+  pub settled : (seat k : ℕ) (c : CompletedCall) → IsCompletedCall log seat k c → IsSettledIn log seat c
   pub each : (seat : ℕ) → seat < readers → HoldsAs (local_at seat log).held (held_by state.callers (caller_for seat (local_at seat log).number))
   unnumbered : (n : ℕ) → enlisted_by log < n → n ≤ 255 → held_by state.callers (Reporter n) ≡ Some Idle
 
@@ -359,7 +359,7 @@ module _ (readers : ℕ) (log : Log) (r : Leads readers log) (facts : LogFacts l
 
   -- the completed calls of all passes, those of this one among them
   settled_by : (d' : LocalState) → with_step d x.step ≡ d' → ((k : ℕ) (a : CompletedCall) → slice_get d'.calls k ≡ Some a → IsSettledIn log' x.seat a)
-      → (seat k : ℕ) (a : CompletedCall) → IsCompleted log' seat k a → IsSettledIn log' seat a
+      → (seat k : ℕ) (a : CompletedCall) → IsCompletedCall log' seat k a → IsSettledIn log' seat a
   settled_by d' is own seat k a = by_seat log x (λ seat y. slice_get y.calls k ≡ Some a → IsSettledIn log' seat a) d' is (own k a)
       (λ seat not at. settled_later log x seat a (r.settled seat k a at)) seat
 
@@ -427,7 +427,7 @@ abbrev placed : ℕ → Action → ℕ → ℕ → Option Entry → LoggedStep
 placed seat action index length entry = record { seat = seat; step = record { action = action; index = index; length = length; entry = entry } }
 
 -- each step of a log
-module _ (readers : ℕ) (log : Log) (r : Leads readers log) (is_log : IsWellFormedLog log) (follows : FollowsProtocol log) (seat : ℕ) (seated : seat < readers) (place at : ℕ)
+module _ (readers : ℕ) (log : Log) (r : Leads readers log) (is_log : IsConsistentLog log) (follows : FollowsProtocol log) (seat : ℕ) (seated : seat < readers) (place at : ℕ)
     (entry : Option Entry) (here : place ≡ length log) (now : at ≡ length (history_of log)) where
   abbrev number : ℕ
   number = (local_at seat log).number
@@ -557,7 +557,7 @@ leads_none readers = record {
     reporter_idle (suc m) some few = idle_in 255 m (omega arith)
 
 -- each log that follows the protocol leads to a state of the machine
-pub leads_all : (readers : ℕ) (log : Log) → IsWellFormedLog log → FollowsProtocol log → All (λ (x : LoggedStep). x.seat < readers) log → Leads readers log
+pub leads_all : (readers : ℕ) (log : Log) → IsConsistentLog log → FollowsProtocol log → All (λ (x : LoggedStep). x.seat < readers) log → Leads readers log
 leads_all readers log =
     may_induction MayBeTaken (λ l. FollowsProtocol l → All (λ (x : LoggedStep). x.seat < readers) l → Leads readers l)
     (λ f all. leads_none readers)
@@ -590,5 +590,5 @@ seats_below (x ∷ log) = let t = seats_below log in let n = t.0 + (x.seat + 1) 
     (n, All-cons (λ (y : LoggedStep). y.seat < n) x log (omega arith) (below_more t.0 n log (omega arith) t.1))
 
 -- each log that follows the protocol leads to a state of the machine, with as many readers as its seats need
-pub run_of : (log : Log) → IsWellFormedLog log → FollowsProtocol log → Leads (seats_below log).0 log
+pub run_of : (log : Log) → IsConsistentLog log → FollowsProtocol log → Leads (seats_below log).0 log
 run_of log is follows = leads_all (seats_below log).0 log is follows (seats_below log).1

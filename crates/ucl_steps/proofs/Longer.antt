@@ -6,7 +6,7 @@ use Rattle.ucl_steps.proofs.Common.{IsMatch, IsReporter, match_after, word_of, r
 use Rattle.ucl_steps.proofs.Common.{Accepted, Copied, Refused, Stale, MatchRecord, Pending, NoCall, Holding, Collecting, Checking, Outcome, GoesOn, Answers, by_rules}
 use Rattle.ucl_steps.proofs.Histories.{board_get, read_back, take_one}
 use Rattle.ucl_word.specs.declared.event.Accepted as event
-use Rattle.ucl_log.specs.Log.{AccessKind, Look, Swap, First, Second, IsWellFormedLog, Log, LoggedStep, Match, MayBeTaken, Action, entry_list, history_of, logged_by, step_taken}
+use Rattle.ucl_log.specs.Log.{AccessKind, Look, Swap, First, Second, IsConsistentLog, Log, LoggedStep, Match, MayBeTaken, Action, entry_list, history_of, logged_by, step_taken}
 use Rattle.ucl_log.proofs.Logs.{history_more, history_same}
 use Rattle.ucl_board.proofs.HistoryTheorems.{begins_through}
 use Rattle.ucl_steps.proofs.LocalStates.{local_other, local_own}
@@ -17,7 +17,7 @@ use Rattle.ucl_steps.specs.LocalState.{outcome, with_outcome}
 
 -- a log of steps that found what was there, and that follows the protocol
 pub record IsOfProtocol (log : Log) : Type 0 where
-  pub is_log : IsWellFormedLog log
+  pub is_log : IsConsistentLog log
   pub follows : FollowsProtocol log
 
 -- steps of the pass of this seat alone can follow a log, by which its call goes on: no entry comes, and it holds this then

@@ -9,7 +9,7 @@ use Rattle.ucl_steps.proofs.Common.{Call, Reply, Pending, Outcome, GoesOn, Answe
 use Rattle.std.specs.Prelude.{filter}
 use Rattle.std.proofs.lemmas.List.Elements.{filter-append}
 use Rattle.ucl_word.proofs.Sequences.{may_begin, may_induction, may_last}
-use Rattle.ucl_log.specs.Log.{CountRaised, IsWellFormedLog, Log, LoggedStep, MayBeTaken, TakenStep, Action, entry_list, history_of}
+use Rattle.ucl_log.specs.Log.{CountRaised, IsConsistentLog, Log, LoggedStep, MayBeTaken, TakenStep, Action, entry_list, history_of}
 use Rattle.ucl_board.proofs.HistoryTheorems.{begins_same, begins_through}
 use Rattle.ucl_log.proofs.Logs.{history_more}
 use Rattle.ucl_steps.proofs.LocalStates.{AllInTurn, point_new, pointed_same, all_in_turn, by_seat, checking, local_own, entries_all, entries_rise, entries_same, last_below, look_none}
@@ -17,7 +17,7 @@ use Rattle.ucl_steps.proofs.LaterLogs.{calls_stay}
 use Rattle.ucl_steps.proofs.LogHistory.{logs_have_points}
 use Rattle.ucl_steps.specs.LocalState.{LocalState, FollowsProtocol, IsNextFor, IsNextOfProtocol, call_answered, call_asked, local_at, entry_by, outcome}
 use Rattle.ucl_steps.specs.LocalState.{with_step, with_action}
-use Rattle.ucl_steps.specs.LocalState.{IsCompleted}
+use Rattle.ucl_steps.specs.LocalState.{IsCompletedCall}
 use Rattle.ucl_steps.proofs.Points.{HasPoints, IsExplained, PointedCall, entries_before, point_of, pointed}
 use Rattle.ucl_steps.specs.Linearizability.{Operation}
 use Rattle.ucl_steps.specs.Strong.{is_report}
@@ -276,7 +276,7 @@ calls_end d x t reply on = search (arith, enlists_on)
 -- this is a completed call of the log
 pub record IsDoneCall (log : Log) (e : Done) : Type 0 where
   pub call : CompletedCall
-  pub is : IsCompleted log e.seat e.turn call
+  pub is : IsCompletedCall log e.seat e.turn call
   pub same : pointed log e.seat call ≡ e.call
 
 -- a completed call of the log is among these
@@ -286,13 +286,13 @@ HasPlace log list seat turn c = (p : ℕ) × (slice_get list p ≡ Some (done_of
 -- these calls are the completed ones of the log, each once, in the order of time and of their points
 pub record IsDone (log : Log) (list : List Done) : Type 0 where
   pub are : Each (IsDoneCall log) list
-  pub all : (seat turn : ℕ) (c : CompletedCall) → IsCompleted log seat turn c → HasPlace log list seat turn c
+  pub all : (seat turn : ℕ) (c : CompletedCall) → IsCompletedCall log seat turn c → HasPlace log list seat turn c
   pub pairs : Pairs list
   pub points : PointsFrom 0 list
   pub size_all : sizes list ≡ length (history_of log)
 
 -- a log with one step more
-module _ (log : Log) (x : LoggedStep) (is : IsWellFormedLog (log ++ x ∷ [])) (follows : FollowsProtocol (log ++ x ∷ [])) (list : List Done) (was : IsDone log list) where
+module _ (log : Log) (x : LoggedStep) (is : IsConsistentLog (log ++ x ∷ [])) (follows : FollowsProtocol (log ++ x ∷ [])) (list : List Done) (was : IsDone log list) where
   may : MayBeTaken log x
   may = may_last MayBeTaken log x is
 
@@ -309,17 +309,17 @@ module _ (log : Log) (x : LoggedStep) (is : IsWellFormedLog (log ++ x ∷ [])) (
   turns = all_in_turn log (may_begin MayBeTaken log (x ∷ []) is) (may_begin IsNextOfProtocol log (x ∷ []) follows)
 
   -- old calls stay
-  stays : (seat turn : ℕ) (c : CompletedCall) → IsCompleted log seat turn c → IsCompleted longer seat turn c
+  stays : (seat turn : ℕ) (c : CompletedCall) → IsCompletedCall log seat turn c → IsCompletedCall longer seat turn c
   stays seat turn c at = calls_stay log longer seat turn c (x ∷ [], refl) at
 
-  keeps : (seat turn : ℕ) (c : CompletedCall) → IsCompleted log seat turn c → pointed longer seat c ≡ pointed log seat c
+  keeps : (seat turn : ℕ) (c : CompletedCall) → IsCompletedCall log seat turn c → pointed longer seat c ≡ pointed log seat c
   keeps seat turn c at = pointed_same log x seat c ((turns seat).timed turn c at)
 
   still : (e : Done) → IsDoneCall log e → IsDoneCall longer e
   still e u = record { call = u.call; is = stays e.seat e.turn u.call u.is; same = keeps e.seat e.turn u.call u.is ∙ u.same }
 
   has_place : (more : List Done) → ((q : ℕ) (e : Done) → slice_get list q ≡ Some e → (p : ℕ) × (slice_get more p ≡ Some e))
-      → (seat turn : ℕ) (c : CompletedCall) → IsCompleted log seat turn c → HasPlace longer more seat turn c
+      → (seat turn : ℕ) (c : CompletedCall) → IsCompletedCall log seat turn c → HasPlace longer more seat turn c
   has_place more old seat turn c at =
       let u = was.all seat turn c at in
       old u.0 (done_of seat turn (pointed longer seat c)) (u.1 ∙ ap (λ (z : PointedCall). Some (done_of seat turn z)) (sym (keeps seat turn c at)))
@@ -361,7 +361,7 @@ module _ (log : Log) (x : LoggedStep) (is : IsWellFormedLog (log ++ x ∷ [])) (
     own_calls : (local_at x.seat longer).calls ≡ d.calls ++ c ∷ []
     own_calls = ap (λ (y : LocalState). y.calls) (local_own log x) ∙ calls_end d x.step x.step.action reply on
 
-    is_call : IsCompleted longer x.seat (length d.calls) c
+    is_call : IsCompletedCall longer x.seat (length d.calls) c
     is_call = ap (λ (l : List CompletedCall). slice_get l (length d.calls)) own_calls ∙ at_end d.calls c
 
     lin : HasPoints longer
@@ -464,7 +464,7 @@ module _ (log : Log) (x : LoggedStep) (is : IsWellFormedLog (log ++ x ∷ [])) (
   )
 
 -- the calls that are placed are those of the log
-pub done_all : (log : Log) → IsWellFormedLog log → FollowsProtocol log → IsDone log (done log)
+pub done_all : (log : Log) → IsConsistentLog log → FollowsProtocol log → IsDone log (done log)
 done_all log is = may_induction MayBeTaken (λ l. FollowsProtocol l → IsDone l (done l))
     (λ f. search (arith, none-some))
     (λ xs x before may was f.
@@ -473,12 +473,12 @@ done_all log is = may_induction MayBeTaken (λ l. FollowsProtocol l → IsDone l
     log is
 
 -- a longer log leaves the reports as they are, and in their order
-pub reports_stay : (log more : Log) → IsWellFormedLog (log ++ more) → FollowsProtocol (log ++ more) → IsPrefix (reports log (done log)) (reports (log ++ more) (done (log ++ more)))
+pub reports_stay : (log more : Log) → IsConsistentLog (log ++ more) → FollowsProtocol (log ++ more) → IsPrefix (reports log (done log)) (reports (log ++ more) (done (log ++ more)))
 reports_stay log [] is follows = subst (λ (l : Log). IsPrefix (reports log (done log)) (reports l (done l))) (sym (append-nil log)) (begins_same (reports log (done log)))
 reports_stay log (x ∷ more) is follows =
     let longer = log ++ x ∷ [] in
     let assoc : longer ++ more ≡ log ++ x ∷ more = append_assoc log (x ∷ []) more in
-    let all = subst IsWellFormedLog (sym assoc) is in
+    let all = subst IsConsistentLog (sym assoc) is in
     let followed = subst FollowsProtocol (sym assoc) follows in
     let one = may_begin MayBeTaken longer more all in
     let one_follows = may_begin IsNextOfProtocol longer more followed in

@@ -2,7 +2,7 @@
 use Rattle.ucl_steps.proofs.Common.{◌≡◌, ℕ, ◌+◌, ◌<◌, ◌≤◌, true, List, length, take, Some, slice_get, Entry, EventCall, entry_of, sequential_reply, snapshot_at}
 use Rattle.ucl_steps.proofs.Common.{Call, Event, Reading, Reply, Copied, CompletedCall, Pending, Checking, accepts}
 use Rattle.ucl_log.specs.Log.{Log, history_of}
-use Rattle.ucl_steps.specs.LocalState.{IsCompleted, local_at}
+use Rattle.ucl_steps.specs.LocalState.{IsCompletedCall, local_at}
 use Rattle.ucl_steps.specs.Protocol.{report_reply}
 
 -- a call that has its reply, with its linearization point; the times of its beginning and its end, as places among steps or events (`first`,
@@ -66,5 +66,5 @@ pointed log seat c = record {
 
 -- the history of a log explains each completed call of each pass, which ended with a step of the log; its point is not after this step
 pub record HasPoints (log : Log) : Type 0 where
-  pub explained : (seat k : ℕ) (c : CompletedCall) → IsCompleted log seat k c → IsExplained (history_of log) (pointed log seat c)
-  pub timely : (seat k : ℕ) (c : CompletedCall) → IsCompleted log seat k c → (c.last_index < length log) × (point_at log seat c ≤ entries_before log c.last_index)
+  pub explained : (seat k : ℕ) (c : CompletedCall) → IsCompletedCall log seat k c → IsExplained (history_of log) (pointed log seat c)
+  pub timely : (seat k : ℕ) (c : CompletedCall) → IsCompletedCall log seat k c → (c.last_index < length log) × (point_at log seat c ≤ entries_before log c.last_index)

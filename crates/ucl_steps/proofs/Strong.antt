@@ -26,7 +26,7 @@ use Rattle.ucl_steps.specs.BoardObject.{board_object, object_reply}
 use Rattle.ucl_steps.specs.CallEvents.{call_events}
 use Rattle.ucl_steps.specs.LocalState.{LocalState, IsNextOfProtocol, local_at}
 use Rattle.ucl_steps.specs.Linearizability.{Response, Operation, IsOperation, Linearizes, is_pending}
-use Rattle.ucl_steps.specs.LocalState.{IsCompleted}
+use Rattle.ucl_steps.specs.LocalState.{IsCompletedCall}
 use Rattle.ucl_steps.specs.Strong.{IsPrefixPreservingOnLogs, LogsAreNotStronglyLinearizable}
 
 -- if each element passes the test, a filtered list is the list
@@ -101,7 +101,7 @@ module _ (f : Log → List (Operation (ℕ × Call) Reply)) (strong : IsPrefixPr
       (subst (IsPrefix (filter (λ (o : Operation (ℕ × Call) Reply). true) (f trunk))) (filter_all (f log)) (strong.extends trunk log (is.is_log, is.follows) begins))
 
   -- each completed call has a place
-  placed : (log : Log) → IsOfProtocol log → (seat k : ℕ) (c : CompletedCall) → IsCompleted log seat k c → (j : ℕ) × (slice_get (f log) j ≡ Some (operation_of log seat c))
+  placed : (log : Log) → IsOfProtocol log → (seat k : ℕ) (c : CompletedCall) → IsCompletedCall log seat k c → (j : ℕ) × (slice_get (f log) j ≡ Some (operation_of log seat c))
   placed log is seat k c at =
       let l = linear log is in
       let s = (all_traced log is.is_log is.follows).completed seat k c at in

@@ -4,12 +4,12 @@
 use Rattle.std.specs.Prelude.{◌≡◌, ◌↔◌, ℕ, ◌<◌, List, [], All, length}
 use Rattle.ucl_board.specs.declared.entry.Entry.{Entry}
 use Rattle.ucl_board.specs.History.{IsLegal, board_of, sequential_reply, attempted, after_attempt}
-use Rattle.ucl_log.specs.Log.{Log, IsWellFormedLog, history_of}
+use Rattle.ucl_log.specs.Log.{Log, IsConsistentLog, history_of}
 use Rattle.ucl_steps.specs.declared.step.Call.{Call}
 use Rattle.ucl_steps.specs.declared.step.Call.TheVariants.{Event, Reading}
 use Rattle.ucl_steps.specs.declared.trace.Reply.{Reply}
 use Rattle.ucl_steps.specs.declared.trace.Reply.TheVariants.{Copied}
-use Rattle.ucl_steps.specs.LocalState.{CompletedCall, FollowsProtocol, IsCompleted}
+use Rattle.ucl_steps.specs.LocalState.{CompletedCall, FollowsProtocol, IsCompletedCall}
 use Rattle.ucl_steps.specs.Linearizability.{SequentialObject, HistoryEvent, Invocation, Response, Operation, IsOperation, IsLinearizable, state_after}
 use Rattle.ucl_steps.specs.Protocol.{report_reply, MayAsk}
 
@@ -59,12 +59,12 @@ pub record HasLinearizableCalls (log : Log) : Type 0 where
   pub legal : IsLegal (history_of log)
   pub none_added : linearizable.linearizable.1.responses ≡ []
   pub invoked : ℕ → CompletedCall → ℕ
-  pub completed : (seat k : ℕ) (c : CompletedCall) → IsCompleted log seat k c → IsOperation history (operation_at seat c (invoked seat c))
+  pub completed : (seat k : ℕ) (c : CompletedCall) → IsCompletedCall log seat k c → IsOperation history (operation_at seat c (invoked seat c))
   pub only : (o : Operation (ℕ × Call) Reply) → IsOperation history o
-      → (k : ℕ) × (c : CompletedCall) × IsCompleted log o.process k c × (operation_at o.process c (invoked o.process c) ≡ o)
-  pub order : (seat other k l : ℕ) (a b : CompletedCall) → (is_a : IsCompleted log seat k a) → IsCompleted log other l b
+      → (k : ℕ) × (c : CompletedCall) × IsCompletedCall log o.process k c × (operation_at o.process c (invoked o.process c) ≡ o)
+  pub order : (seat other k l : ℕ) (a b : CompletedCall) → (is_a : IsCompletedCall log seat k a) → IsCompletedCall log other l b
       → ((completed seat k a is_a).answered < invoked other b) ↔ (a.last_index < b.first_index)
 
 -- each log of steps that the protocol lets come one after another has linearizable calls
 abbrev pub CallsAreLinearizable : Type 0
-CallsAreLinearizable = (log : Log) → IsWellFormedLog log → FollowsProtocol log → HasLinearizableCalls log
+CallsAreLinearizable = (log : Log) → IsConsistentLog log → FollowsProtocol log → HasLinearizableCalls log

@@ -89,8 +89,8 @@ abbrev pub local_at : ℕ → Log → LocalState
 local_at seat log = local_of (taken_by seat log)
 
 -- among the calls that the pass at this seat has completed by the end of the log, this one is number k, counted from 0
-abbrev pub IsCompleted : Log → ℕ → ℕ → CompletedCall → Type 0
-IsCompleted log seat k call = slice_get (local_at seat log).calls k ≡ Some call
+abbrev pub IsCompletedCall : Log → ℕ → ℕ → CompletedCall → Type 0
+IsCompletedCall log seat k call = slice_get (local_at seat log).calls k ≡ Some call
 
 -- for a step of this kind, the match that is next for a pass that holds this; 0 if no such step is next, and for a Look
 abbrev pub next_match : AccessKind → Pending → ℕ

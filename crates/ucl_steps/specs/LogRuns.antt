@@ -10,7 +10,7 @@ use Rattle.ucl_steps.specs.declared.step.Step.{Step}
 use Rattle.ucl_steps.specs.declared.step.Step.TheVariants as machine
 use Rattle.ucl_steps.specs.Protocol.{Pending, NoCall, Outcome, GoesOn, Answers}
 use Rattle.ucl_steps.specs.Machine.{CallerState, MachineState, Idle, Within, initial_state, held_by, after_steps}
-use Rattle.ucl_log.specs.Log.{AccessKind, Look, Swap, First, Second, Action, Match, LoggedStep, Log, history_of, IsWellFormedLog}
+use Rattle.ucl_log.specs.Log.{AccessKind, Look, Swap, First, Second, Action, Match, LoggedStep, Log, history_of, IsConsistentLog}
 use Rattle.ucl_steps.specs.LocalState.{local_at, call_asked, outcome, FollowsProtocol}
 
 -- the caller of the machine that stands for the pass with this seat and number: the reader of its seat until the pass is enlisted, then the
@@ -81,4 +81,4 @@ pub record LeadsToLog (readers : ℕ) (log : Log) : Type 0 where
 
 -- each log that follows the protocol, with seats below `readers`, is a run of the machine with so many readers
 abbrev pub LogsAreRuns : Type 0
-LogsAreRuns = (readers : ℕ) (log : Log) → IsWellFormedLog log → FollowsProtocol log → All (λ (logged : LoggedStep). logged.seat < readers) log → LeadsToLog readers log
+LogsAreRuns = (readers : ℕ) (log : Log) → IsConsistentLog log → FollowsProtocol log → All (λ (logged : LoggedStep). logged.seat < readers) log → LeadsToLog readers log

@@ -11,7 +11,7 @@ use Rattle.ucl_steps.specs.declared.step.Call.TheVariants.{Event, Reading}
 use Rattle.ucl_steps.specs.declared.trace.Reply.{Reply}
 use Rattle.ucl_steps.specs.declared.trace.Reply.TheVariants.{Accepted, Copied}
 use Rattle.ucl_steps.specs.BoardObject.{BoardEvent, MayInvoke, HasLinearizableCalls, board_object}
-use Rattle.ucl_steps.specs.LocalState.{CompletedCall, IsCompleted}
+use Rattle.ucl_steps.specs.LocalState.{CompletedCall, IsCompletedCall}
 use Rattle.ucl_steps.specs.Linearizability.{Invocation, Response, Operation, IsOperation, IsLinearizable}
 
 -- the reply `later` has seen an earlier call with this reply: a reading shows an accepted event, since its match has the event number that
@@ -40,8 +40,8 @@ LinearizableReadsWhole = (history : List BoardEvent) → All MayInvoke history �
 
 -- among the completed calls of a log no reading is stale, and none is torn, whichever passes they are of
 pub record CallsReadWhole (log : Log) : Type 0 where
-  pub fresh : (i j k l : ℕ) (a b : CompletedCall) → IsCompleted log i k a → IsCompleted log j l b → a.last_index < b.first_index → HasSeen a.call a.reply b.reply
-  pub whole : (i j h k l m : ℕ) (a b c : CompletedCall) → IsCompleted log i k a → IsCompleted log j l b → IsCompleted log h m c → a.last_index < b.first_index
+  pub fresh : (i j k l : ℕ) (a b : CompletedCall) → IsCompletedCall log i k a → IsCompletedCall log j l b → a.last_index < b.first_index → HasSeen a.call a.reply b.reply
+  pub whole : (i j h k l m : ℕ) (a b c : CompletedCall) → IsCompletedCall log i k a → IsCompletedCall log j l b → IsCompletedCall log h m c → a.last_index < b.first_index
       → accepts b.reply ≡ true → HasSeen b.call b.reply c.reply → HasSeen a.call a.reply c.reply
 
 -- so it is in each log, and so on each board, that has linearizable calls

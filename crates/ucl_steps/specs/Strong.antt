@@ -1,7 +1,7 @@
 -- Strong linearizability of logs (Linearizability.antt): when a log grows longer, reports keep their places, but readings may move.
 -- If only the writes are fixed, here the reports, it is write strong-linearizability (Hadzilacos, Hu and Toueg 2021).
 use Rattle.std.specs.Prelude.{ℕ, Bool, true, false, List}
-use Rattle.ucl_log.specs.Log.{Log, IsWellFormedLog}
+use Rattle.ucl_log.specs.Log.{Log, IsConsistentLog}
 use Rattle.ucl_steps.specs.declared.step.Call.{Call}
 use Rattle.ucl_steps.specs.declared.step.Call.TheVariants.{Event, Reading}
 use Rattle.ucl_steps.specs.declared.trace.Reply.{Reply}
@@ -19,7 +19,7 @@ is_report Reading = false
 -- the test `fixed` as they are, and in their order, and has its own after them
 abbrev pub IsPrefixPreservingOnLogs : (Call → Bool) → (Log → List (Operation (ℕ × Call) Reply)) → Type 0
 IsPrefixPreservingOnLogs fixed linearize =
-    IsPrefixPreserving (λ (log : Log). IsWellFormedLog log × FollowsProtocol log) call_events board_object (λ (asked : ℕ × Call). fixed asked.1) linearize
+    IsPrefixPreserving (λ (log : Log). IsConsistentLog log × FollowsProtocol log) call_events board_object (λ (asked : ℕ × Call). fixed asked.1) linearize
 
 -- the protocol is write strongly-linearizable: of some linearizations all reports, accepted or refused, stay as they are
 abbrev pub LogsAreWriteStronglyLinearizable : Type 0

@@ -1,7 +1,7 @@
 //! Theorems of every list of steps of the machine, and of every log: the steps that passes took on a shared board. The functions do
 //! nothing: each is there for its contract.
 
-ghost use Rattle.ucl_log.specs.Log.{Log, IsWellFormedLog, IsLegalRule, LogFacts};
+ghost use Rattle.ucl_log.specs.Log.{Log, IsConsistentLog, IsLegalRule, LogFacts};
 ghost use Rattle.ucl_steps.specs.LocalState.{FollowsProtocol, IsNextOfProtocol};
 ghost use Rattle.ucl_steps.specs.Theorems.{RunsAreLinearizable, RunsReadWhole, WordsAreOfTheHistory, UncleanTriesSeeMore, UncleanTriesAreFew, ReadingsAreSnapshots, ReportsAreSequential};
 ghost use Rattle.ucl_steps.specs.BoardObject.{CallsAreLinearizable};
@@ -78,7 +78,7 @@ pub fn stale_and_torn_readings_are_refused()
 /// pass, and that the entries with a number are those that its pass added. Each step of such a log keeps the history legal, and gives a
 /// number only to a pass without one.
 pub fn logs_have_facts()
-    ensures facts { (log : Log) → IsWellFormedLog log → FollowsProtocol log → LogFacts log }
+    ensures facts { (log : Log) → IsConsistentLog log → FollowsProtocol log → LogFacts log }
     ensures legal { IsLegalRule IsNextOfProtocol }
 {}
 

@@ -4,14 +4,14 @@ use Rattle.std.proofs.lemmas.Bool.{cases_lt}
 use Rattle.std.proofs.lemmas.List.{length-take-le}
 use Rattle.std.proofs.lemmas.List.Elements.{All-weaker}
 use Rattle.ucl_board.proofs.HistoryTheorems.{legal_take, versions}
-use Rattle.ucl_theorems.specs.Headline.{ScreensShowTheHistory, BeganSince, BoardsHaveOneHistory, HistoriesGoOn, LogGoesOn, WasOverBefore}
+use Rattle.ucl_theorems.specs.Headline.{ScreensShowTheHistory, BeganSince, BoardsHaveOneHistory, HistoriesGoOn, LogGoesOn, Precedes}
 use Rattle.ucl_screen.specs.Screen.{screen_text}
 use mathlib.Core.List.{IsPrefix}
 use Rattle.atomic_table.specs.Table.{State}
 use Rattle.ucl_board.specs.declared.entry.Entry.{Entry}
 use Rattle.ucl_log.proofs.Logs.{taken_none}
 use Rattle.ucl_log.specs.Log.{LoggedStep}
-use Rattle.ucl_steps.specs.LocalState.{CompletedCall, IsCompleted}
+use Rattle.ucl_steps.specs.LocalState.{CompletedCall, IsCompletedCall}
 use Rattle.ucl_steps.specs.Seen.{CallsReadWhole}
 use Rattle.ucl_steps.proofs.BoardObject.{calls_linearizable}
 use Rattle.ucl_steps.proofs.Freshness.{calls_whole}
@@ -60,11 +60,11 @@ logs_go_on s t r q later = record {
     reads : CallsReadWhole q.log
     reads = calls_whole q.log (calls_linearizable q.log q.is_log q.follows)
 
-    stays : (a b : CompletedCall) (over : WasOverBefore s r.log q.log a b) → IsCompleted q.log over.of_a.0 over.of_a.1 a
+    stays : (a b : CompletedCall) (over : Precedes s r.log q.log a b) → IsCompletedCall q.log over.of_a.0 over.of_a.1 a
     stays a b over = calls_stay r.log q.log over.of_a.0 over.of_a.1 a more over.completed
 
     -- a call that began in the state or later comes after its log
-    after : (seat k : ℕ) (b : CompletedCall) → IsCompleted q.log seat k b → BeganSince s seat b → length r.log ≤ b.first_index
+    after : (seat k : ℕ) (b : CompletedCall) → IsCompletedCall q.log seat k b → BeganSince s seat b → length r.log ≤ b.first_index
     after seat k b at since = elim (cases_lt seat (length s.views)) [
       | inl there ↦
           let v = view_at s.views seat there in
@@ -76,7 +76,7 @@ logs_go_on s t r q later = record {
     ]
 
     -- the last step of a call that was over before another began comes before the first step of that other
-    turn : (a b : CompletedCall) (over : WasOverBefore s r.log q.log a b) → a.last_index < b.first_index
+    turn : (a b : CompletedCall) (over : Precedes s r.log q.log a b) → a.last_index < b.first_index
     turn a b over =
         let ended = ((logs_have_points r.log r.is_log r.follows).timely over.of_a.0 over.of_a.1 a over.completed).0 in
         let began = after over.of_b.0 over.of_b.1 b over.completes over.began in

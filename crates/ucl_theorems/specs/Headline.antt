@@ -1,6 +1,6 @@
 -- One history for all callers, and the screens of what readers read: of every run of the protocol's machine, and of every word board.
 -- A call's linearization point is the length of the history when it takes effect.
-use Rattle.std.specs.Prelude.{◌≡◌, ℕ, ◌<◌, ◌≤◌, ◌++◌, true, List, All, length, take, flat_map, Some}
+use Rattle.std.specs.Prelude.{◌≡◌, ℕ, ◌<◌, ◌≤◌, ◌∷◌, ◌++◌, true, List, All, length, take, flat_map, Some}
 use mathlib.Core.List.{IsPrefix}
 use mathlib.Core.Option.{some}
 use lib.ListN.{get_elem?}
@@ -16,8 +16,8 @@ use Rattle.ucl_steps.specs.declared.step.Cast.{Cast}
 use Rattle.ucl_steps.specs.declared.step.Step.{Step}
 use Rattle.ucl_steps.specs.Machine.{MachineState, initial_state, after_steps}
 use Rattle.ucl_steps.specs.RunHistory.{IsLinearizableRun}
-use Rattle.ucl_log.specs.Log.{LoggedStep, Log, IsWellFormedLog, taken_by, history_of, enlisted_by}
-use Rattle.ucl_steps.specs.LocalState.{CompletedCall, FollowsProtocol, IsCompleted, local_at}
+use Rattle.ucl_log.specs.Log.{LoggedStep, Log, IsConsistentLog, taken_by, history_of, enlisted_by}
+use Rattle.ucl_steps.specs.LocalState.{CompletedCall, FollowsProtocol, IsCompletedCall, local_at}
 use Rattle.ucl_steps.specs.BoardObject.{HasLinearizableCalls}
 use Rattle.ucl_steps.specs.Seen.{HasSeen, accepts}
 use Rattle.ucl_live_board.specs.declared.view.View.{View}
@@ -48,13 +48,13 @@ pub record IsOfLog (log : Log) (seat : ℕ) (pass : View) : Type 0 where
   pub knows : IsPrefix pass.log log
   pub own : pass.own ≡ taken_by seat log
 
--- A word board, between two steps of any threads, has one history. There is one well-formed log of all steps, which follows the protocol and
+-- A word board, between two steps of any threads, has one history. There is one consistent log of all steps, which follows the protocol and
 -- gives all words: the number of enlisted reporters and the board of its history. Each pass knows a prefix of the log, which has its own
 -- steps; no step is of a seat without a pass, and no two reporters have one number (a reader has 0). The calls of the log are linearizable:
 -- run one after the other on the board of one thread, in some order that is that of real time, they give the replies that they got.
 pub record IsOneHistory (state : State Entry View) : Type 0 where
   pub log : Log
-  pub is_log : IsWellFormedLog log
+  pub is_log : IsConsistentLog log
   pub follows : FollowsProtocol log
   pub words : state.words ≡ enlisted_by log ∷ board_of (history_of log)
   pub each : (seat : ℕ) (pass : View)
@@ -73,24 +73,24 @@ BoardsHaveOneHistory rule = (state : State Entry View) → rule state → IsOneH
 abbrev pub BeganSince : State Entry View → ℕ → CompletedCall → Type 0
 BeganSince state seat c = (pass : View) → get_elem? state.views seat ≡ some pass → length pass.log ≤ c.first_index
 
--- In real time call a was over before call b began: a was completed in a state, with this log, and b began in that state or later, and was
--- completed in a later one. The passes, and the numbers of the calls among theirs, may be any.
-pub record WasOverBefore (state : State Entry View) (log later : Log) (a b : CompletedCall) : Type 0 where
+-- Call a precedes call b in real time: a was completed in a state, with this log, and b began in that state or later, and was completed in a
+-- later one. The passes, and the numbers of the calls among theirs, may be any.
+pub record Precedes (state : State Entry View) (log later : Log) (a b : CompletedCall) : Type 0 where
   pub of_a : ℕ × ℕ
   pub of_b : ℕ × ℕ
-  pub completed : IsCompleted log of_a.0 of_a.1 a
-  pub completes : IsCompleted later of_b.0 of_b.1 b
+  pub completed : IsCompletedCall log of_a.0 of_a.1 a
+  pub completes : IsCompletedCall later of_b.0 of_b.1 b
   pub began : BeganSince state of_b.0 b
 
--- The log of a state is a prefix of the log of a later one, and each completed call is the same call there. If in real time call a
--- was over before call b began, the last step of a comes before the first step of b in the log, and b has seen a: no reading is stale. And
--- none is torn: if b was accepted, each call of the later log that has seen b has seen a.
+-- The log of a state is a prefix of the log of a later one, and each completed call is the same call there. If call a precedes call b
+-- in real time, the last step of a comes before the first step of b in the log, and b has seen a: no reading is stale. And none is torn: if
+-- b was accepted, each call of the later log that has seen b has seen a.
 pub record LogGoesOn (state : State Entry View) (log later : Log) : Type 0 where
   pub begins : IsPrefix log later
-  pub calls : (seat k : ℕ) (c : CompletedCall) → IsCompleted log seat k c → IsCompleted later seat k c
-  pub real_time : (a b : CompletedCall) → WasOverBefore state log later a b → a.last_index < b.first_index
-  pub fresh : (a b : CompletedCall) → WasOverBefore state log later a b → HasSeen a.call a.reply b.reply
-  pub whole : (a b c : CompletedCall) (seat k : ℕ) → WasOverBefore state log later a b → accepts b.reply ≡ true → IsCompleted later seat k c
+  pub calls : (seat k : ℕ) (c : CompletedCall) → IsCompletedCall log seat k c → IsCompletedCall later seat k c
+  pub real_time : (a b : CompletedCall) → Precedes state log later a b → a.last_index < b.first_index
+  pub fresh : (a b : CompletedCall) → Precedes state log later a b → HasSeen a.call a.reply b.reply
+  pub whole : (a b c : CompletedCall) (seat k : ℕ) → Precedes state log later a b → accepts b.reply ≡ true → IsCompletedCall later seat k c
       → HasSeen b.call b.reply c.reply → HasSeen a.call a.reply c.reply
 
 -- The history of a board that satisfies `rule`, its invariant, only grows, whichever steps of whichever passes come between two states: no

@@ -1,7 +1,7 @@
 -- What a split, a meeting and an enlistment say of their passes; and what the invariant of the table says of every board, and of later
 -- states of one.
 use Rattle.ucl_words.proofs.Common.{Access, Bool, CountsReporters, DoneAsBefore, EnlistStep, EnlistTries, CountRead, EnlistedStep, Enlisting}
-use Rattle.ucl_words.proofs.Common.{CountRaised, FindsEnlisted, Follows, FoundEnlisted, Goes, HasTrail, IsConsistent, IsWellFormedLog, IsNextOfProtocol}
+use Rattle.ucl_words.proofs.Common.{CountRaised, FindsEnlisted, Follows, FoundEnlisted, Goes, HasTrail, IsConsistent, IsConsistentLog, IsNextOfProtocol}
 use Rattle.ucl_words.proofs.Common.{IsPrefix, IsSound, ReadsCurrent, JoinIsMonotone, LaterBoardsExtend, LaterState, LaterStatesCompose, List, []}
 use Rattle.ucl_words.proofs.Common.{Log, LoggedStep, Match, MayBeTaken, None, NumbersRiseInTime, Occurs, Sees, Some, ap, subst, SplitIsMonotone}
 use Rattle.ucl_words.proofs.Common.{Stays, Steps, TakenStep, Takes, Action, View, Whole, WordEnlisted, WordFull, WordMet, WordPass, WordSplit}
@@ -309,12 +309,12 @@ one_number log x may = by_seat log x (λ k steps. (number_of steps ≡ number_of
     by_target (Whole shown) there is = inl is
 
 -- over more steps of a log a seat keeps its number, or is given one above all numbers given before
-number_given : (since log : Log) (seat : ℕ) → IsWellFormedLog (log ++ since)
+number_given : (since log : Log) (seat : ℕ) → IsConsistentLog (log ++ since)
     → (number_of (taken_by seat (log ++ since)) ≡ number_of (taken_by seat log)) ⊎ (enlisted_by log < number_of (taken_by seat (log ++ since)))
 number_given [] log seat is = inl (ap (λ (l : Log). number_of (taken_by seat l)) (append-nil log))
 number_given (x ∷ since) log seat is =
     let one = append_assoc log (x ∷ []) since in
-    let is' = subst IsWellFormedLog (sym one) is in
+    let is' = subst IsConsistentLog (sym one) is in
     let whole = ap (λ (l : Log). number_of (taken_by seat l)) one in
     let low = enlisted_on log (log ++ x ∷ []) (x ∷ [], refl) in
     elim (number_given since (log ++ x ∷ []) seat is') [
@@ -332,7 +332,7 @@ numbers_rise s t r q later seat v w here none there some_number =
     let was : number_of (taken_by seat r.log) ≡ 0 = ap number_of (sym (r.fits seat v here).own.1) ∙ none in
     let is : number_of w.own ≡ number_of (taken_by seat (r.log ++ on.0)) =
     ap number_of (q.fits seat w there).own.1 ∙ ap (λ (l : Log). number_of (taken_by seat l)) (sym on.1) in
-    let above : enlisted_by r.log < number_of w.own = elim (number_given on.0 r.log seat (subst IsWellFormedLog (sym on.1) q.is_log)) [
+    let above : enlisted_by r.log < number_of w.own = elim (number_given on.0 r.log seat (subst IsConsistentLog (sym on.1) q.is_log)) [
       | inl kept ↦ absurd (omega arith)
       | inr more ↦ omega arith
     ] in

@@ -20,7 +20,7 @@ pub use Rattle.ucl_board.proofs.HistoryTheorems.{begins_length, begins_more, beg
 pub use Rattle.ucl_board.specs.Fixtures.{IsMatch}
 pub use Rattle.ucl_board.specs.History.{IsLegal, MayFollow, attempted, board_of, entry_of, followed_by, match_after, reading_of}
 pub use Rattle.ucl_board.specs.History.{sequential_reply}
-pub use Rattle.ucl_log.specs.Log.{Access, AccessKind, CountRead, CountRaised, First, IsWellFormedLog, ReadsCurrent, Log, LoggedStep, Look, Match, MayBeTaken}
+pub use Rattle.ucl_log.specs.Log.{Access, AccessKind, CountRead, CountRaised, First, IsConsistentLog, ReadsCurrent, Log, LoggedStep, Look, Match, MayBeTaken}
 pub use Rattle.ucl_log.specs.Log.{Second, Swap, TakenStep, Action, Whole, access, accesses_in, added_by, enlisted_by, history_of, logged_by}
 pub use Rattle.ucl_log.specs.Log.{number_by, number_of, step_taken, taken_by}
 pub use Rattle.ucl_board.specs.Words.{AreWords, max_version, version_of, word_at}
