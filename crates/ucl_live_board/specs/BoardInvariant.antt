@@ -1,13 +1,15 @@
 -- The invariant of every shared board: what holds of its words and passes between any two steps. `words_after` says what a board's words
 -- are after a history and so many enlistments, and `May` which step may come next.
-use Rattle.std.specs.Prelude.{◌≡◌, ◌⊎◌, ℕ, zero, suc, ◌<◌, ◌≤◌, Bool, true, false, List, [], ◌∷◌, ◌++◌, map, All, length, slice_set, Some, None, IsTrue}
+use Rattle.std.specs.Prelude.{◌≡◌, ◌⊎◌, ℕ, zero, suc, ◌<◌, ◌≤◌, Bool, true, false, List, [], ◌∷◌, ◌++◌, map, All, length, slice_set, Some}
+use Rattle.std.specs.Prelude.{None, IsTrue}
 use mathlib.Core.List.{IsPrefix}
 use mathlib.Core.Option.{some}
 use lib.ListN.{get_elem?}
 use Rattle.ucl_word.specs.Counts.{EachMay}
 use Rattle.ucl_board.specs.declared.entry.Entry.{Entry}
 use Rattle.ucl_board.specs.History.{IsLegal}
-use Rattle.ucl_log.specs.Log.{TakenStep, LoggedStep, logged_by, Log, taken_by, added_by, number_of, history_of, enlisted_by, IsConsistentLog, LogFacts}
+use Rattle.ucl_log.specs.Log.{TakenStep, LoggedStep, logged_by, Log, taken_by, added_by, number_of, history_of, enlisted_by}
+use Rattle.ucl_log.specs.Log.{IsConsistentLog, LogFacts}
 use Rattle.ucl_live_board.specs.declared.view.View.{View}
 use Rattle.ucl_live_board.specs.Shares.{whole, Overlap}
 use Rattle.ucl_live_board.specs.Views.{first_pass}
@@ -42,13 +44,15 @@ abbrev pub StepsComeLast : (List Entry → ℕ → List ℕ) → (Log → Logged
 StepsComeLast words_after May =
     (before after : List ℕ) (views : List View) (r : BoardInvariant words_after May before views)
     (seat : ℕ) (v w : View) (steps : List TakenStep) → get_elem? views seat ≡ some v
-    → (s : BoardInvariant words_after May after (slice_set views seat w)) → w.own ≡ v.own ++ steps → s.log ≡ r.log ++ map (logged_by seat) steps
+    → (s : BoardInvariant words_after May after (slice_set views seat w)) → w.own ≡ v.own ++ steps
+    → s.log ≡ r.log ++ map (logged_by seat) steps
 
 -- if the invariant holds, the pass that took the last step of the log knows the whole log
 abbrev pub LastStepsSeeAll : (List Entry → ℕ → List ℕ) → (Log → LoggedStep → Type 0) → Type 0
 LastStepsSeeAll words_after May =
     (words : List ℕ) (views : List View) (r : BoardInvariant words_after May words views)
-    (before : Log) (seat : ℕ) (x : TakenStep) (v : View) → r.log ≡ before ++ logged_by seat x ∷ [] → get_elem? views seat ≡ some v → v.log ≡ r.log
+    (before : Log) (seat : ℕ) (x : TakenStep) (v : View) → r.log ≡ before ++ logged_by seat x ∷ [] → get_elem? views seat ≡ some v
+        → v.log ≡ r.log
 
 -- if the invariant holds, the history is legal, and each reporter's pass has a number of its own and just the entries with it (LogFacts)
 abbrev pub NumbersAreApart : (List Entry → ℕ → List ℕ) → (Log → LoggedStep → Type 0) → Type 0
@@ -58,7 +62,8 @@ NumbersAreApart words_after May =
 -- if the invariant holds, what each pass has seen is a prefix of the history
 abbrev pub PassesSeePrefixes : (List Entry → ℕ → List ℕ) → (Log → LoggedStep → Type 0) → Type 0
 PassesSeePrefixes words_after May =
-    (words : List ℕ) (views : List View) (r : BoardInvariant words_after May words views) (seat : ℕ) (v : View) → get_elem? views seat ≡ some v
+    (words : List ℕ) (views : List View) (r : BoardInvariant words_after May words views) (seat : ℕ) (v : View)
+        → get_elem? views seat ≡ some v
     → IsPrefix (history_of v.log) (history_of r.log)
 
 -- the words are those after this history with `enlisted` reporters, at most 255; no pass with one of these views has a number above that,
@@ -74,7 +79,8 @@ pub record CountsAllReporters (words_after : List Entry → ℕ → List ℕ) (w
 -- if the invariant holds, the words say how many reporters are enlisted, at most 255, and no pass and no entry has a number above that
 abbrev pub WordsCountReporters : (List Entry → ℕ → List ℕ) → (Log → LoggedStep → Type 0) → Type 0
 WordsCountReporters words_after May =
-    (words : List ℕ) (views : List View) (r : BoardInvariant words_after May words views) → CountsAllReporters words_after words views (history_of r.log)
+    (words : List ℕ) (views : List View) (r : BoardInvariant words_after May words views)
+        → CountsAllReporters words_after words views (history_of r.log)
 
 -- at a seat of the set `held` there is a pass whose share has this path: a share is written as the path to it, which half of the board,
 -- which half of that, and so on
@@ -93,12 +99,14 @@ Covers views held (suc n) path = IsHeld views held path ⊎ (Covers views held n
 -- each step of the log is by a seat in the set `held`, and each reporter's number that was given is that of a pass at such a seat
 pub record DidAll (log : Log) (views : List View) (held : ℕ → Bool) : Type 0 where
   pub steps : All (λ (x : LoggedStep). IsTrue (held x.seat)) log
-  pub numbers : (n : ℕ) → 1 ≤ n → n ≤ enlisted_by log → (seat : ℕ) × (v : View) × IsTrue (held seat) × (get_elem? views seat ≡ some v) × (number_of v.own ≡ n)
+  pub numbers : (n : ℕ) → 1 ≤ n → n ≤ enlisted_by log
+      → (seat : ℕ) × (v : View) × IsTrue (held seat) × (get_elem? views seat ≡ some v) × (number_of v.own ≡ n)
 
 -- if the shares at the seats in the set `held` are the whole board, their passes took all steps and have all numbers of reporters
 abbrev pub HoldersDidAll : (List Entry → ℕ → List ℕ) → (Log → LoggedStep → Type 0) → Type 0
 HoldersDidAll words_after May =
-    (words : List ℕ) (views : List View) (r : BoardInvariant words_after May words views) (held : ℕ → Bool) (halvings : ℕ) → Covers views held halvings [] → DidAll r.log views held
+    (words : List ℕ) (views : List View) (r : BoardInvariant words_after May words views) (held : ℕ → Bool) (halvings : ℕ)
+        → Covers views held halvings [] → DidAll r.log views held
 
 -- the pass with this view entered all entries of the log, and no other pass was enlisted
 pub record DidAllAlone (log : Log) (view : View) : Type 0 where
@@ -109,4 +117,5 @@ pub record DidAllAlone (log : Log) (view : View) : Type 0 where
 -- if the share of a pass is the whole board, it entered all entries of the log, and no other pass was enlisted
 abbrev pub WholeIsAlone : (List Entry → ℕ → List ℕ) → (Log → LoggedStep → Type 0) → Type 0
 WholeIsAlone words_after May =
-    (words : List ℕ) (views : List View) (r : BoardInvariant words_after May words views) (seat : ℕ) (v : View) → get_elem? views seat ≡ some v → v.share ≡ whole → DidAllAlone r.log v
+    (words : List ℕ) (views : List View) (r : BoardInvariant words_after May words views) (seat : ℕ) (v : View)
+        → get_elem? views seat ≡ some v → v.share ≡ whole → DidAllAlone r.log v

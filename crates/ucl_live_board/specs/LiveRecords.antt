@@ -5,7 +5,8 @@ use Rattle.ucl_word.specs.declared.event.EventCall.{EventCall}
 use Rattle.ucl_word.specs.declared.event.Accepted.{Accepted}
 use Rattle.ucl_word.specs.declared.refusal.Refusal.{Refusal}
 use Rattle.ucl_board.specs.declared.reading.Reading.{Reading}
-use Rattle.ucl_live_board.specs.Passes.{PassView, IsSound, Continues, AcceptedReport, RefusedReport, SharedReading, FullBoard, Meeting, kept_pass, split_pass}
+use Rattle.ucl_live_board.specs.Passes.{PassView, IsSound, Continues, AcceptedReport, RefusedReport, SharedReading, FullBoard, Meeting}
+use Rattle.ucl_live_board.specs.Passes.{kept_pass, split_pass}
 
 -- what `report` says of the pass that made the report, by its reply: the event was accepted, or refused with this refusal
 pub record LiveReported (old : PassView) (call : EventCall) (reply : Result Accepted Refusal) (new : PassView) : Type 0 where

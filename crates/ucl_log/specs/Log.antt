@@ -32,8 +32,8 @@ abbrev pub access : AccessKind → ℕ → ℕ → ℕ → ℕ → Access
 access kind game found index length = record { kind = kind; game = game; found = found; index = index; length = length }
 
 -- the action of a step, with what it found. Match: an access. CountRead: the number of enlisted reporters, which stays, by a load or a lost
--- compare-and-exchange. CountRaised: the same number, which the step raised by one. Whole: all words, on a board that has such steps; `shown`
--- if a reading returned them
+-- compare-and-exchange. CountRaised: the same number, which the step raised by one. Whole: all words, on a board that has such steps;
+-- `shown` if a reading returned them
 pub data Action : Type 0 where
   Match : (kind : AccessKind) (game found : ℕ) → Action
   CountRead : (found : ℕ) → Action

@@ -48,8 +48,8 @@ pub record CellReportSteps (before : View) (call : EventCall) (reply : Result Ac
 abbrev pub HasNumberLeft : View → Type 0
 HasNumberLeft pass = enlisted_by pass.log < 255
 
--- The steps of an enlistment. After each load but one that finds 255 reporters an exchange follows; the last found the words of its load, and
--- enlisted the pass.
+-- The steps of an enlistment. After each load but one that finds 255 reporters an exchange follows; the last found the words of its load,
+-- and enlisted the pass.
 pub record CellEnlistSteps (before after : View) : Type 0 where
   pub words : List ℕ
   pub looked : View

@@ -1,6 +1,7 @@
 -- What each kind of step on a cell board says of the pass that takes it: `before` and `after` are the pass, `found` and `left` all thirteen
 -- words, before and after it.
-use Rattle.std.specs.Prelude.{◌≡◌, ◌≢◌, ◌⊎◌, ℕ, ◌+◌, true, false, List, [], ◌∷◌, Option, Some, None, slice_index, slice_set, Result, MatchResult, if◌then◌else◌, nat_eq}
+use Rattle.std.specs.Prelude.{◌≡◌, ◌≢◌, ◌⊎◌, ℕ, ◌+◌, true, false, List, [], ◌∷◌, Option, Some, None, slice_index, slice_set, Result}
+use Rattle.std.specs.Prelude.{MatchResult, if◌then◌else◌, nat_eq}
 use lib.Pointwise.{pointwise}
 use Rattle.ucl_word.specs.declared.event.EventCall.{EventCall}
 use Rattle.ucl_word.specs.Counts.{GainsOne}
@@ -20,8 +21,8 @@ IsNextBoard entry current next = (enlisted : ℕ) → GainsOne IsLegal (λ histo
 abbrev pub with_one_more : List ℕ → List ℕ
 with_one_more words = slice_set words 12 (slice_index words 12 + 1)
 
--- The pass took one step with this action (what was done and what was found), by which it added this entry or none. The words found are those
--- of the log before the step, and the words left those of the log that the pass then knows.
+-- The pass took one step with this action (what was done and what was found), by which it added this entry or none. The words found are
+-- those of the log before the step, and the words left those of the log that the pass then knows.
 pub record CellStep (action : Action) (entry : Option Entry) (before : View) (found_words left_words : List ℕ) (after : View) : Type 0 where
   pub seat : ℕ
   pub steps : BoardStep words_after IsLegalStep seat action before after
@@ -57,7 +58,8 @@ MayStore Stores before found left after = ((found ≡ left) × LooksOnly before 
 abbrev pub exchanged : List ℕ → List ℕ → List ℕ → List ℕ
 exchanged current next found = if pointwise nat_eq found current then next else found
 
--- What is known of a compare-and-exchange of this kind by its answer: it found the words `current` and left `next`, or found others and left them.
+-- What is known of a compare-and-exchange of this kind by its answer: it found the words `current` and left `next`, or found others and
+-- left them.
 abbrev pub Answers : (View → List ℕ → List ℕ → View → Type 0) → View → List ℕ → List ℕ → Result (List ℕ) (List ℕ) → View → Type 0
 Answers kind before current next answer after = MatchResult answer
     (λ found. (pointwise nat_eq found current ≡ true) × kind before found next after)
@@ -71,4 +73,5 @@ Exchanges Stores before current next answer after = MatchResult answer
 
 -- A step of this kind, whatever it finds and leaves, adds exactly one step to those of the pass that takes it, of which the log is made.
 abbrev pub LogsOneStep : (View → List ℕ → List ℕ → View → Type 0) → Type 0
-LogsOneStep kind = (before : View) (found left : List ℕ) (after : View) → kind before found left after → (taken : TakenStep) × Takes before (taken ∷ []) after
+LogsOneStep kind = (before : View) (found left : List ℕ) (after : View) → kind before found left after
+    → (taken : TakenStep) × Takes before (taken ∷ []) after

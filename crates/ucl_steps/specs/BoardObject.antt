@@ -10,7 +10,8 @@ use Rattle.ucl_steps.specs.declared.step.Call.TheVariants.{Event, Reading}
 use Rattle.ucl_steps.specs.declared.trace.Reply.{Reply}
 use Rattle.ucl_steps.specs.declared.trace.Reply.TheVariants.{Copied}
 use Rattle.ucl_steps.specs.LocalState.{CompletedCall, FollowsProtocol, IsCompletedCall}
-use Rattle.ucl_steps.specs.Linearizability.{SequentialObject, HistoryEvent, Invocation, Response, Operation, IsOperation, IsLinearizable, state_after}
+use Rattle.ucl_steps.specs.Linearizability.{SequentialObject, HistoryEvent, Invocation, Response, Operation, IsOperation, IsLinearizable}
+use Rattle.ucl_steps.specs.Linearizability.{state_after}
 use Rattle.ucl_steps.specs.Protocol.{report_reply, MayAsk}
 
 -- the entries of the board of one thread with these entries, after this call of a pass with this number: an accepted event adds its entry
@@ -35,7 +36,8 @@ board_object = record {
 abbrev pub BoardEvent : Type 0
 BoardEvent = HistoryEvent (ℕ × Call) Reply
 
--- an event of a history, if it invokes a call, invokes one that may be asked: reporters enter events of matches 1 to 12, and each pass reads
+-- an event of a history, if it invokes a call, invokes one that may be asked: reporters enter events of matches 1 to 12, and each pass
+-- reads
 abbrev pub MayInvoke : BoardEvent → Type 0
 MayInvoke (Invocation process asked) = MayAsk asked.0 asked.1
 MayInvoke (Response process reply) = Unit {0}
@@ -50,8 +52,8 @@ abbrev pub operation_at : ℕ → CompletedCall → ℕ → Operation (ℕ × Ca
 operation_at seat c place = record { process = seat; call = (c.number, c.call); invoked = place; reply = c.reply }
 
 -- there is a linearizable history of calls that may be asked, which leaves the entries of the log, a legal history. No response is added to
--- it, so no pending invocation accounts for an entry. Its operations are the completed calls of the log: one got its response before another
--- was invoked just if its last step comes before the other's first step in the log
+-- it, so no pending invocation accounts for an entry. Its operations are the completed calls of the log: one got its response before
+-- another was invoked just if its last step comes before the other's first step in the log
 pub record HasLinearizableCalls (log : Log) : Type 0 where
   pub history : List BoardEvent
   pub asked : All MayInvoke history
@@ -59,7 +61,8 @@ pub record HasLinearizableCalls (log : Log) : Type 0 where
   pub legal : IsLegal (history_of log)
   pub none_added : linearizable.linearizable.1.responses ≡ []
   pub invoked : ℕ → CompletedCall → ℕ
-  pub completed : (seat k : ℕ) (c : CompletedCall) → IsCompletedCall log seat k c → IsOperation history (operation_at seat c (invoked seat c))
+  pub completed : (seat k : ℕ) (c : CompletedCall) → IsCompletedCall log seat k c
+      → IsOperation history (operation_at seat c (invoked seat c))
   pub only : (o : Operation (ℕ × Call) Reply) → IsOperation history o
       → (k : ℕ) × (c : CompletedCall) × IsCompletedCall log o.process k c × (operation_at o.process c (invoked o.process c) ≡ o)
   pub order : (seat other k l : ℕ) (a b : CompletedCall) → (is_a : IsCompletedCall log seat k a) → IsCompletedCall log other l b

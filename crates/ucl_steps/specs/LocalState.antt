@@ -9,8 +9,10 @@ use Rattle.ucl_board.specs.History.{entry_of}
 use Rattle.ucl_steps.specs.declared.step.Call.{Call}
 use Rattle.ucl_steps.specs.declared.step.Call.TheVariants.{Event, Reading}
 use Rattle.ucl_steps.specs.declared.trace.Reply.{Reply}
-use Rattle.ucl_steps.specs.Protocol.{Pending, NoCall, Holding, Collecting, Checking, Outcome, GoesOn, Answers, look_outcome, swap_outcome, first_outcome, second_outcome}
-use Rattle.ucl_log.specs.Log.{AccessKind, Look, Swap, First, Second, Action, Match, CountRaised, Whole, TakenStep, LoggedStep, Log, taken_by}
+use Rattle.ucl_steps.specs.Protocol.{Pending, NoCall, Holding, Collecting, Checking, Outcome, GoesOn, Answers, look_outcome, swap_outcome}
+use Rattle.ucl_steps.specs.Protocol.{first_outcome, second_outcome}
+use Rattle.ucl_log.specs.Log.{AccessKind, Look, Swap, First, Second, Action, Match, CountRaised, Whole, TakenStep, LoggedStep, Log}
+use Rattle.ucl_log.specs.Log.{taken_by}
 
 -- a completed call: the number of its pass (0 for a reader), what it asked, the reply, and the indices in the log of its first step and of
 -- its last
@@ -21,8 +23,8 @@ pub record CompletedCall : Type 0 where
   pub first_index : ℕ
   pub last_index : ℕ
 
--- the local state of a pass: its number (0 for a reader), its completed calls, oldest first, what it holds of its pending call (NoCall if there
--- is none), and the index in the log of the first step of its latest call
+-- the local state of a pass: its number (0 for a reader), its completed calls, oldest first, what it holds of its pending call (NoCall if
+-- there is none), and the index in the log of the first step of its latest call
 pub record LocalState : Type 0 where
   pub number : ℕ
   pub calls : List CompletedCall
@@ -39,8 +41,8 @@ call_asked held (Match (Look event) game found) = Event event
 call_asked (Holding event old new) action = Event event
 call_asked held action = Reading
 
--- the outcome of this action of a pass with this number that holds this, if the history has this length: the call goes on, and what the pass
--- then holds (GoesOn), or the reply to the call (Answers). A step that is none of its call's next ones leaves what is held
+-- the outcome of this action of a pass with this number that holds this, if the history has this length: the call goes on, and what the
+-- pass then holds (GoesOn), or the reply to the call (Answers). A step that is none of its call's next ones leaves what is held
 abbrev pub outcome : ℕ → Pending → Action → ℕ → Outcome
 outcome number held (Match (Look event) game found) length = look_outcome number event found
 outcome number (Holding event old new) (Match Swap game found) length = swap_outcome old new found
@@ -100,8 +102,8 @@ next_match First (Collecting words) = length words + 1
 next_match Second (Checking words checked point) = checked + 1
 next_match _ _ = 0
 
--- a pass in this state may take a step with this action next: only a reporter enters events, matches come in the order of the protocol, only
--- a reader without a call is enlisted, no step looks at the whole board, and the number of enlisted reporters may always be loaded
+-- a pass in this state may take a step with this action next: only a reporter enters events, matches come in the order of the protocol,
+-- only a reader without a call is enlisted, no step looks at the whole board, and the number of enlisted reporters may always be loaded
 abbrev pub IsNextFor : LocalState → Action → Type 0
 IsNextFor local (Match (Look event) game found) = (local.held ≡ NoCall) × (game ≡ event.game) × IsReporter local.number
 IsNextFor local (Match kind game found) = game ≡ next_match kind local.held
@@ -109,7 +111,8 @@ IsNextFor local (CountRaised found) = (local.held ≡ NoCall) × (local.number �
 IsNextFor local (Whole shown) = ⊥
 IsNextFor local action = Unit {0}
 
--- the entry that a step with this action adds, by its pass's number and what that held: only a compare-and-exchange that finds the loaded word adds one
+-- the entry that a step with this action adds, by its pass's number and what that held: only a compare-and-exchange that finds the loaded
+-- word adds one
 abbrev pub entry_by : ℕ → Pending → Action → Option Entry
 entry_by number (Holding event old new) (Match Swap game found) = if found == old then Some (entry_of number event) else None
 entry_by number held action = None

@@ -40,8 +40,8 @@ abbrev pub ends_by : Outcome → Caller → List Step
 ends_by (Answers reply) caller = machine.End caller ∷ []
 ends_by (GoesOn held) caller = []
 
--- the machine's steps for this action of a pass with this caller and number, which held this, when the history had this length: the same step,
--- after the Begin of its call if it is the call's first, before the End if it is the last; none if the action is no access
+-- the machine's steps for this action of a pass with this caller and number, which held this, when the history had this length: the same
+-- step, after the Begin of its call if it is the call's first, before the End if it is the last; none if the action is no access
 abbrev pub steps_on : Caller → ℕ → Pending → Action → ℕ → List Step
 steps_on caller number held (Match kind game found) length =
     begins_by held caller (call_asked held (Match kind game found))
@@ -81,4 +81,5 @@ pub record LeadsToLog (readers : ℕ) (log : Log) : Type 0 where
 
 -- each log that follows the protocol, with seats below `readers`, is a run of the machine with so many readers
 abbrev pub LogsAreRuns : Type 0
-LogsAreRuns = (readers : ℕ) (log : Log) → IsConsistentLog log → FollowsProtocol log → All (λ (logged : LoggedStep). logged.seat < readers) log → LeadsToLog readers log
+LogsAreRuns = (readers : ℕ) (log : Log) → IsConsistentLog log → FollowsProtocol log
+    → All (λ (logged : LoggedStep). logged.seat < readers) log → LeadsToLog readers log

@@ -1,6 +1,7 @@
 -- The snapshot protocol as a state machine: the board, the callers, the calls; which step is enabled when, and what it does.
 -- Protocol.antt says what comes of a step on a match word. A call's linearization point is a length of the history.
-use Rattle.std.specs.Prelude.{ℕ, zero, suc, ◌-◌, ◌==◌, ◌&&◌, nat_le, Bool, true, false, if◌then◌else◌, List, [], ◌∷◌, ◌++◌, length, replicate, Option, Some}
+use Rattle.std.specs.Prelude.{ℕ, zero, suc, ◌-◌, ◌==◌, ◌&&◌, nat_le, Bool, true, false, if◌then◌else◌, List, [], ◌∷◌, ◌++◌, length}
+use Rattle.std.specs.Prelude.{replicate, Option, Some}
 use Rattle.std.specs.Prelude.{None}
 use Rattle.std.specs.Prelude.{IsSome, slice_get, slice_set, slice_index}
 use Rattle.std.specs.Option.{option_and_then}
@@ -19,7 +20,8 @@ use Rattle.ucl_steps.specs.declared.step.Step.{Step}
 use Rattle.ucl_steps.specs.declared.step.Step.TheVariants.{Begin, Look, Swap, First, Second, End}
 use Rattle.ucl_steps.specs.declared.trace.Reply.{Reply}
 use Rattle.ucl_steps.specs.declared.trace.CallRecord.{CallRecord}
-use Rattle.ucl_steps.specs.Protocol.{Pending, Holding, Collecting, Checking, Outcome, GoesOn, Answers, look_outcome, swap_outcome, first_outcome, second_outcome}
+use Rattle.ucl_steps.specs.Protocol.{Pending, Holding, Collecting, Checking, Outcome, GoesOn, Answers, look_outcome, swap_outcome}
+use Rattle.ucl_steps.specs.Protocol.{first_outcome, second_outcome}
 
 -- What a caller of the machine holds between two of its steps; `call` is the place of its call in the list of all calls. Idle: no call.
 -- Wanting: an event to enter. Within: what a call under way keeps (Protocol.antt). Answered: a call that has its reply and has not ended.

@@ -1,6 +1,6 @@
 -- The snapshot protocol: what a caller holds between two steps on match words, and what comes of each step.
--- A report loads a word (Look), then replaces it by a compare-and-exchange (Swap). A reading loads all words (First), then all again (Second),
--- and begins anew if they differ.
+-- A report loads a word (Look), then replaces it by a compare-and-exchange (Swap). A reading loads all words (First), then all again
+-- (Second), and begins anew if they differ.
 use Rattle.std.specs.Prelude.{ℕ, ◌+◌, ◌==◌, if◌then◌else◌, List, [], ◌∷◌, ◌++◌, length, Option, Some, None, Result, Ok, Err, slice_index}
 use Rattle.ucl_word.specs.declared.event.EventCall.{EventCall}
 use Rattle.ucl_word.specs.declared.event.Accepted as event
@@ -18,8 +18,8 @@ use Rattle.ucl_steps.specs.declared.trace.Reply.TheVariants.{Accepted, Refused, 
 
 -- What a caller holds between two steps on match words. NoCall: nothing, since no call is under way. Holding: the event of a report, the
 -- word that it loaded, and the one that is to take its place. Collecting: the words that a reading's first collect has loaded so far.
--- Checking: all twelve, how many the second collect has found again, and the reading's linearization point: the length of the history at the
--- twelfth load of the first.
+-- Checking: all twelve, how many the second collect has found again, and the reading's linearization point: the length of the history at
+-- the twelfth load of the first.
 pub data Pending : Type 0 where
   NoCall : Pending
   Holding : (e : EventCall) (old new : ℕ) → Pending

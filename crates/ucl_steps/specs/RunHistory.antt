@@ -1,6 +1,7 @@
--- The history of calls of a list of steps of the machine: a Begin invokes a call, and its End is the response, with the reply that the call has
--- got. A call whose End is not among the steps is pending. And what it is that the calls that a run records are linearizable.
-use Rattle.std.specs.Prelude.{◌≡◌, ◌↔◌, ℕ, ◌+◌, ◌*◌, ◌<◌, ◌≤◌, true, List, [], ◌∷◌, ◌++◌, length, take, Option, Some, None, IsSome, IfSome, slice_get}
+-- The history of calls of a list of steps of the machine: a Begin invokes a call, and its End is the response, with the reply that the call
+-- has got. A call whose End is not among the steps is pending. And what it is that the calls that a run records are linearizable.
+use Rattle.std.specs.Prelude.{◌≡◌, ◌↔◌, ℕ, ◌+◌, ◌*◌, ◌<◌, ◌≤◌, true, List, [], ◌∷◌, ◌++◌, length, take, Option, Some, None, IsSome, IfSome}
+use Rattle.std.specs.Prelude.{slice_get}
 use Rattle.std.specs.Option.{option_and_then}
 use Rattle.ucl_board.specs.History.{IsLegal}
 use Rattle.ucl_board.specs.declared.entry.Entry.{Entry}
@@ -59,7 +60,8 @@ abbrev pub operation_by : CallRecord → ℕ → Reply → Operation (ℕ × Cal
 operation_by c place reply = record { process = process_for c.caller; call = (caller_number c.caller, c.call); invoked = place; reply = reply }
 
 -- a recorded call takes effect at its point: it is this operation of a sequence, and those before it leave the first `point` entries of the
--- history. The point lies between the lengths of the history at the call's Begin and at its End; the entry of an accepted call is there by then
+-- history. The point lies between the lengths of the history at the call's Begin and at its End; the entry of an accepted call is there by
+-- then
 pub record TakesEffect (sequence : List (Operation (ℕ × Call) Reply)) (history : List Entry) (c : CallRecord) (o : Operation (ℕ × Call) Reply) : Type 0 where
   pub point : ℕ
   pub recorded : c.point ≡ Some point
@@ -70,8 +72,8 @@ pub record TakesEffect (sequence : List (Operation (ℕ × Call) Reply)) (histor
   pub before : state_after board_object [] (take place sequence) ≡ take point history
 
 -- the calls that a run records are those that its history of calls invokes, in their order. That history is linearizable, and leaves the
--- history of the run, which is legal. A call has its reply if it has ended, and its point just if it has its reply: it takes effect there. And
--- it has ended just if it has its response
+-- history of the run, which is legal. A call has its reply if it has ended, and its point just if it has its reply: it takes effect there.
+-- And it has ended just if it has its response
 pub record IsLinearizableRun (cast : Cast) (steps : List Step) (history : List Entry) (calls : List CallRecord) : Type 0 where
   pub linearizable : IsLinearizableTo history (run_events cast steps)
   pub legal : IsLegal history
@@ -81,7 +83,8 @@ pub record IsLinearizableRun (cast : Cast) (steps : List Step) (history : List E
   pub only : (place process : ℕ) (asked : ℕ × Call) → slice_get (run_events cast steps) place ≡ Some (Invocation process asked)
       → (i : ℕ) × (i < length calls) × (invoked i ≡ place)
   pub in_order : (i j : ℕ) → i < j → j < length calls → invoked i < invoked j
-  pub replied : (i : ℕ) (c : CallRecord) → slice_get calls i ≡ Some c → (IsSome c.ended → IsSome c.reply) × (IsSome c.point ↔ IsSome c.reply)
+  pub replied : (i : ℕ) (c : CallRecord) → slice_get calls i ≡ Some c
+      → (IsSome c.ended → IsSome c.reply) × (IsSome c.point ↔ IsSome c.reply)
   pub effect : (i : ℕ) (c : CallRecord) (reply : Reply) → slice_get calls i ≡ Some c → c.reply ≡ Some reply
       → TakesEffect linearizable.linearizable.0 history c (operation_by c (invoked i) reply)
   pub ended : (i : ℕ) (c : CallRecord) (reply : Reply) → slice_get calls i ≡ Some c → c.reply ≡ Some reply

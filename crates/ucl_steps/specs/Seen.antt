@@ -1,5 +1,5 @@
--- What a later call must have seen of an earlier one, if calls are linearizable: no reading is stale, and none is torn. These laws follow from
--- linearizability, and ask for no more: they say what it means to whoever reads a board.
+-- What a later call must have seen of an earlier one, if calls are linearizable: no reading is stale, and none is torn. These laws follow
+-- from linearizability, and ask for no more: they say what it means to whoever reads a board.
 use Rattle.std.specs.Prelude.{◌≡◌, ℕ, ◌<◌, ◌≤◌, Bool, true, false, List, [], ◌∷◌, All}
 use Rattle.ucl_word.specs.declared.event.EventCall.{EventCall}
 use Rattle.ucl_word.specs.declared.event.Kind.TheVariants.{KickOff}
@@ -40,8 +40,10 @@ LinearizableReadsWhole = (history : List BoardEvent) → All MayInvoke history �
 
 -- among the completed calls of a log no reading is stale, and none is torn, whichever passes they are of
 pub record CallsReadWhole (log : Log) : Type 0 where
-  pub fresh : (i j k l : ℕ) (a b : CompletedCall) → IsCompletedCall log i k a → IsCompletedCall log j l b → a.last_index < b.first_index → HasSeen a.call a.reply b.reply
-  pub whole : (i j h k l m : ℕ) (a b c : CompletedCall) → IsCompletedCall log i k a → IsCompletedCall log j l b → IsCompletedCall log h m c → a.last_index < b.first_index
+  pub fresh : (i j k l : ℕ) (a b : CompletedCall) → IsCompletedCall log i k a → IsCompletedCall log j l b → a.last_index < b.first_index
+      → HasSeen a.call a.reply b.reply
+  pub whole : (i j h k l m : ℕ) (a b c : CompletedCall) → IsCompletedCall log i k a → IsCompletedCall log j l b → IsCompletedCall log h m c
+      → a.last_index < b.first_index
       → accepts b.reply ≡ true → HasSeen b.call b.reply c.reply → HasSeen a.call a.reply c.reply
 
 -- so it is in each log, and so on each board, that has linearizable calls

@@ -28,4 +28,5 @@ LogsAreWriteStronglyLinearizable = (linearize : Log → List (Operation (ℕ × 
 -- the protocol is not strongly linearizable: of no linearizations all calls stay as they are. When a report has ended, whether a reading
 -- that is under way comes before it may still depend on later steps
 abbrev pub LogsAreNotStronglyLinearizable : Type 0
-LogsAreNotStronglyLinearizable = (linearize : Log → List (Operation (ℕ × Call) Reply)) → IsPrefixPreservingOnLogs (λ (call : Call). true) linearize → ⊥
+LogsAreNotStronglyLinearizable = (linearize : Log → List (Operation (ℕ × Call) Reply))
+    → IsPrefixPreservingOnLogs (λ (call : Call). true) linearize → ⊥

@@ -24,19 +24,24 @@ RunsAreLinearizable = (cast : Cast) (steps : List Step) (state : MachineState) �
 
 -- so no reading of a run is stale or torn
 abbrev pub RunsReadWhole : Type 0
-RunsReadWhole = (cast : Cast) (steps : List Step) (state : MachineState) → after_steps steps (initial_state cast) ≡ Some state → ReadsWhole (run_events cast steps)
+RunsReadWhole = (cast : Cast) (steps : List Step) (state : MachineState) → after_steps steps (initial_state cast) ≡ Some state
+    → ReadsWhole (run_events cast steps)
 
 -- after every list of enabled steps the match words are those of the board of the history
 abbrev pub WordsAreOfTheHistory : Type 0
-WordsAreOfTheHistory = (cast : Cast) (steps : List Step) (state : MachineState) → after_steps steps (initial_state cast) ≡ Some state → state.words ≡ board_of state.history
+WordsAreOfTheHistory = (cast : Cast) (steps : List Step) (state : MachineState) → after_steps steps (initial_state cast) ≡ Some state
+    → state.words ≡ board_of state.history
 
 -- the last access of an unclean try, which found another word, comes when the history is longer than at the first load of that match
 abbrev pub UncleanTriesSeeMore : Type 0
-UncleanTriesSeeMore = (history : List Entry) (low high : ℕ) (ms : List Access) → Follows history low ms high → (try : IsUnclean ms) (first : Access) → slice_get try.firsts (length try.broken.equal) ≡ Some first → first.length < try.broken.last.length
+UncleanTriesSeeMore = (history : List Entry) (low high : ℕ) (ms : List Access) → Follows history low ms high
+    → (try : IsUnclean ms) (first : Access) → slice_get try.firsts (length try.broken.equal) ≡ Some first
+    → first.length < try.broken.last.length
 
 -- if accesses are made while a history grows from `low` to `high` entries, no more tries of readings find a word changed than entries came
 abbrev pub UncleanTriesAreFew : Type 0
-UncleanTriesAreFew = (history : List Entry) (low high : ℕ) (tries : List (List Access)) → Follows history low (accesses_of tries) high → AllByRecursion IsUnclean tries → low + length tries ≤ high
+UncleanTriesAreFew = (history : List Entry) (low high : ℕ) (tries : List (List Access)) → Follows history low (accesses_of tries) high
+    → AllByRecursion IsUnclean tries → low + length tries ≤ high
 
 -- a reading with these accesses is the board after the first entries of the history, as many as its version says, which is from `low` to
 -- `high`; it had no more unclean tries than entries came meanwhile, at least 24 loads, at most 24 for each try, and no more than max_loads
@@ -50,9 +55,12 @@ pub record IsReadFrom (history : List Entry) (low high : ℕ) (reading : Reading
 -- if the accesses of a reading follow a legal history, the reading is the board after a prefix of it, as long as its version says; it has
 -- no more unclean tries than entries came meanwhile, and at most 24 loads for each try
 abbrev pub ReadingsAreSnapshots : Type 0
-ReadingsAreSnapshots = (history : List Entry) (low high : ℕ) (reading : Reading) (ms : List Access) → IsLegal history → high ≤ length history → Follows history low ms high → (accesses : ReadingAccesses reading ms) → IsReadFrom history low high reading ms accesses
+ReadingsAreSnapshots = (history : List Entry) (low high : ℕ) (reading : Reading) (ms : List Access) → IsLegal history
+    → high ≤ length history → Follows history low ms high → (accesses : ReadingAccesses reading ms)
+    → IsReadFrom history low high reading ms accesses
 
 -- if the accesses of a report follow a legal history, its reply is that of the board of one thread after the entries before its last access
 abbrev pub ReportsAreSequential : Type 0
-ReportsAreSequential = (history : List Entry) (low high now : ℕ) (call : EventCall) (reply : Result Accepted Refusal) (ms : List Access) → IsLegal history → Follows history low ms high → ReportAccesses call reply ms now
+ReportsAreSequential = (history : List Entry) (low high now : ℕ) (call : EventCall) (reply : Result Accepted Refusal) (ms : List Access)
+    → IsLegal history → Follows history low ms high → ReportAccesses call reply ms now
     → sequential_reply (take (decided_at reply now) history) call ≡ reply

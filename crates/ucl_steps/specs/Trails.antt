@@ -1,6 +1,7 @@
--- The trail of a pass: its loads and compare-and-exchanges of match words, the accesses, oldest first; and which of them each call leaves in it.
--- An access has the word that it found, its index among all steps on the board, and the length of the history just before it.
-use Rattle.std.specs.Prelude.{◌≡◌, ◌≢◌, ℕ, ◌+◌, ◌-◌, ◌*◌, ◌<◌, ◌≤◌, ◌⊎◌, List, [], ◌∷◌, ◌++◌, take, length, Some, Result, Ok, Err, IsOk, slice_get, slice_index}
+-- The trail of a pass: its loads and compare-and-exchanges of match words, the accesses, oldest first; and which of them each call leaves
+-- in it. An access has the word that it found, its index among all steps on the board, and the length of the history just before it.
+use Rattle.std.specs.Prelude.{◌≡◌, ◌≢◌, ℕ, ◌+◌, ◌-◌, ◌*◌, ◌<◌, ◌≤◌, ◌⊎◌, List, [], ◌∷◌, ◌++◌, take, length, Some, Result, Ok, Err, IsOk}
+use Rattle.std.specs.Prelude.{slice_get, slice_index}
 use Rattle.std.specs.List.{AllByRecursion}
 use Rattle.ucl_word.specs.declared.event.EventCall.{EventCall}
 use Rattle.ucl_word.specs.declared.event.Accepted.{Accepted}
@@ -82,7 +83,8 @@ max_loads = 24 * max_tries
 
 -- the accesses are a collect, or the beginning of one: all of this kind, to matches 1, 2 and so on, where they found these words in turn
 abbrev pub IsCollect : AccessKind → List ℕ → List Access → Type 0
-IsCollect kind words steps = (k : ℕ) (step : Access) → slice_get steps k ≡ Some step → Does kind (k + 1) step × (step.found ≡ slice_index words k)
+IsCollect kind words steps = (k : ℕ) (step : Access) → slice_get steps k ≡ Some step
+    → Does kind (k + 1) step × (step.found ≡ slice_index words k)
 
 -- the accesses of a second collect that broke off: Seconds that found the first collect's words again, and a last one that did not
 pub record IsBroken (words : List ℕ) (ms : List Access) : Type 0 where

@@ -33,12 +33,13 @@ screen_at profile history version roster group =
 -- The screen of a snapshot of a legal history, under each profile, roster and group, is that of the history at its place.
 abbrev pub ScreensShowTheHistory : Type 0
 ScreensShowTheHistory =
-    (history : List Entry) (point : ℕ) → IsLegal history → point ≤ length history → (profile : Profile) (roster : List NamedClub) (group : ℕ)
+    (history : List Entry) (point : ℕ) → IsLegal history → point ≤ length history
+        → (profile : Profile) (roster : List NamedClub) (group : ℕ)
     → screen_text profile (snapshot_at history point).board roster group ≡ screen_at profile history point roster group
 
--- Every run of the machine has one history, for any numbers of reporters and readers (`cast`), with calls left unfinished anywhere: its calls
--- are linearizable. A Begin invokes a call, and its End is the response; of calls without an End, those that have their replies count. Each
--- takes effect at the linearization point that is recorded of it.
+-- Every run of the machine has one history, for any numbers of reporters and readers (`cast`), with calls left unfinished anywhere: its
+-- calls are linearizable. A Begin invokes a call, and its End is the response; of calls without an End, those that have their replies
+-- count. Each takes effect at the linearization point that is recorded of it.
 abbrev pub EveryRunHasOneHistory : Type 0
 EveryRunHasOneHistory = (cast : Cast) (steps : List Step) (state : MachineState) → after_steps steps (initial_state cast) ≡ Some state
     → IsLinearizableRun cast steps state.history state.calls
@@ -73,8 +74,8 @@ BoardsHaveOneHistory rule = (state : State Entry View) → rule state → IsOneH
 abbrev pub BeganSince : State Entry View → ℕ → CompletedCall → Type 0
 BeganSince state seat c = (pass : View) → get_elem? state.views seat ≡ some pass → length pass.log ≤ c.first_index
 
--- Call a precedes call b in real time: a was completed in a state, with this log, and b began in that state or later, and was completed in a
--- later one. The passes, and the numbers of the calls among theirs, may be any.
+-- Call a precedes call b in real time: a was completed in a state, with this log, and b began in that state or later, and was completed in
+-- a later one. The passes, and the numbers of the calls among theirs, may be any.
 pub record Precedes (state : State Entry View) (log later : Log) (a b : CompletedCall) : Type 0 where
   pub of_a : ℕ × ℕ
   pub of_b : ℕ × ℕ

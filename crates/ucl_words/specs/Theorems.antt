@@ -20,7 +20,8 @@ use Rattle.ucl_words.specs.LaterState.{LaterState}
 abbrev pub IsNextWord : Entry → ℕ → ℕ → Type 0
 IsNextWord entry old new = GainsOne IsLegal (λ history. word_at (board_of history) entry.game) entry old new
 
--- Two entries of one match that turn the same word into the same word are one entry: so a compare-and-exchange tells which event it entered.
+-- Two entries of one match that turn the same word into the same word are one entry: so a compare-and-exchange tells which event it
+-- entered.
 abbrev pub WordsTellTheEntry : Type 0
 WordsTellTheEntry =
     (history : List Entry) (entry other : Entry) (old new : ℕ) → IsLegal history → entry.game ≡ other.game
@@ -38,7 +39,8 @@ BoardsAreLinearizable = (state : State Entry View) (rule : TableInvariant state)
 
 -- If one state is later than another, and both satisfy the invariant, its log begins with the log of the earlier one.
 abbrev pub LaterBoardsExtend : Type 0
-LaterBoardsExtend = (earlier later : State Entry View) (old : TableInvariant earlier) (new : TableInvariant later) → LaterState earlier later
+LaterBoardsExtend = (earlier later : State Entry View) (old : TableInvariant earlier) (new : TableInvariant later)
+    → LaterState earlier later
     → IsPrefix old.log new.log
 
 -- If a reader's pass of the earlier state is a reporter's in the later one, its number is above all that the earlier state had given.

@@ -40,8 +40,8 @@ pub record LeavesAccesses (old : View) (accesses : List Access) (entry : Option 
   pub follows : Follows (history_of new.log) (length (history_of old.log)) accesses (length (history_of new.log))
   pub whole_trail : HasTrail new
 
--- The steps of a report of `call`: a load, on whose word the rules refuse the event, or a load and a compare-and-exchange, won (accepted) or
--- lost.
+-- The steps of a report of `call`: a load, on whose word the rules refuse the event, or a load and a compare-and-exchange, won (accepted)
+-- or lost.
 pub record ReportSteps (old : View) (call : EventCall) (reply : Result Accepted Refusal) (new : View) : Type 0 where
   pub may : MayAsk (number_of old.own) (calls.Event call)
   pub accesses : List Access
