@@ -52,7 +52,7 @@ abbrev pub LastStepsSeeAll : (List Entry → ℕ → List ℕ) → (Log → Logg
 LastStepsSeeAll words_after May =
     (words : List ℕ) (views : List View) (r : BoardInvariant words_after May words views)
     (before : Log) (seat : ℕ) (x : TakenStep) (v : View) → r.log ≡ before ++ logged_by seat x ∷ [] → get_elem? views seat ≡ some v
-        → v.log ≡ r.log
+    → v.log ≡ r.log
 
 -- if the invariant holds, the history is legal, and each reporter's pass has a number of its own and just the entries with it (LogFacts)
 abbrev pub NumbersAreApart : (List Entry → ℕ → List ℕ) → (Log → LoggedStep → Type 0) → Type 0
@@ -63,7 +63,7 @@ NumbersAreApart words_after May =
 abbrev pub PassesSeePrefixes : (List Entry → ℕ → List ℕ) → (Log → LoggedStep → Type 0) → Type 0
 PassesSeePrefixes words_after May =
     (words : List ℕ) (views : List View) (r : BoardInvariant words_after May words views) (seat : ℕ) (v : View)
-        → get_elem? views seat ≡ some v
+    → get_elem? views seat ≡ some v
     → IsPrefix (history_of v.log) (history_of r.log)
 
 -- the words are those after this history with `enlisted` reporters, at most 255; no pass with one of these views has a number above that,
@@ -80,7 +80,7 @@ pub record CountsAllReporters (words_after : List Entry → ℕ → List ℕ) (w
 abbrev pub WordsCountReporters : (List Entry → ℕ → List ℕ) → (Log → LoggedStep → Type 0) → Type 0
 WordsCountReporters words_after May =
     (words : List ℕ) (views : List View) (r : BoardInvariant words_after May words views)
-        → CountsAllReporters words_after words views (history_of r.log)
+    → CountsAllReporters words_after words views (history_of r.log)
 
 -- at a seat of the set `held` there is a pass whose share has this path: a share is written as the path to it, which half of the board,
 -- which half of that, and so on
@@ -106,7 +106,7 @@ pub record DidAll (log : Log) (views : List View) (held : ℕ → Bool) : Type 0
 abbrev pub HoldersDidAll : (List Entry → ℕ → List ℕ) → (Log → LoggedStep → Type 0) → Type 0
 HoldersDidAll words_after May =
     (words : List ℕ) (views : List View) (r : BoardInvariant words_after May words views) (held : ℕ → Bool) (halvings : ℕ)
-        → Covers views held halvings [] → DidAll r.log views held
+    → Covers views held halvings [] → DidAll r.log views held
 
 -- the pass with this view entered all entries of the log, and no other pass was enlisted
 pub record DidAllAlone (log : Log) (view : View) : Type 0 where
@@ -118,4 +118,4 @@ pub record DidAllAlone (log : Log) (view : View) : Type 0 where
 abbrev pub WholeIsAlone : (List Entry → ℕ → List ℕ) → (Log → LoggedStep → Type 0) → Type 0
 WholeIsAlone words_after May =
     (words : List ℕ) (views : List View) (r : BoardInvariant words_after May words views) (seat : ℕ) (v : View)
-        → get_elem? views seat ≡ some v → v.share ≡ whole → DidAllAlone r.log v
+    → get_elem? views seat ≡ some v → v.share ≡ whole → DidAllAlone r.log v

@@ -34,7 +34,7 @@ screen_at profile history version roster group =
 abbrev pub ScreensShowTheHistory : Type 0
 ScreensShowTheHistory =
     (history : List Entry) (point : ℕ) → IsLegal history → point ≤ length history
-        → (profile : Profile) (roster : List NamedClub) (group : ℕ)
+    → (profile : Profile) (roster : List NamedClub) (group : ℕ)
     → screen_text profile (snapshot_at history point).board roster group ≡ screen_at profile history point roster group
 
 -- Every run of the machine has one history, for any numbers of reporters and readers (`cast`), with calls left unfinished anywhere: its
