@@ -134,8 +134,8 @@ use ucl_words::WordBoard;
 def test_doc_comments():
     """Each public call of a board has one example of 3 to 10 lines, which calls it, and there are no other blocks but at the heads of crates."""
     for call, found in CALLS:
-        (block,) = found
-        assert re.search(rf"\b{call}\(", block) and 3 <= block.count("\n") <= 10, call
+        assert len(found) == 1 and re.search(rf"\b{call}\(", found[0]), call
+        assert 3 <= found[0].count("\n") <= 10, call
     texts = [re.sub(r"^//!.*\n", "", text_of(path), flags=re.M) for path in FILES]
     assert sum(len(BLOCK.findall(text)) for text in texts) == len(CALLS) > 0
 

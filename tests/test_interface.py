@@ -11,6 +11,7 @@ import pytest
 from conftest import EXAMPLES, TOP
 from test_library import (
     HEADER,
+    NUMBERS,
     RUST,
     SOURCES,
     STRICT,
@@ -114,7 +115,7 @@ def wanted():
     del said["edition"], said["matches"]
     line = model.line_of(said)
     lines = [
-        "library 1000000",
+        f"library {NUMBERS['VERSION_NUMBER']}",
         "name 13 limit-reached",
         f"next {begun.word()} found 1",
         f"read {largest.word()} {largest.number} {largest.reporter}",

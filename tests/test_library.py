@@ -75,12 +75,12 @@ def calls():
 
 def statuses():
     """The number and the name of each status but 0, by the variants of the definitions."""
-    rules, faults = (TOP / "crates/ucl_word/specs/Names.antt", SPECS / "Faults.antt")
-    names = dict(re.findall(r'^refusal_name \(?(\w+).* = codes "(.*)"$', rules.read_text(), re.M))
-    codes = re.findall(r"^refusal_code \(?(\w+).* = (\d+)$", rules.read_text(), re.M)
-    others = r'^status_of \(?(\w+).* = \((\d+), codes "(.*)"\)$'
+    rules = (TOP / "crates/ucl_word/specs/Names.antt").read_text()
+    names = dict(re.findall(r'^refusal_name \(?(\w+).* = codes "(.*)"$', rules, re.M))
+    codes = re.findall(r"^refusal_code \(?(\w+).* = (\d+)$", rules, re.M)
     found = [(it, code, names[it]) for it, code in codes]
-    found += re.findall(others, faults.read_text(), re.M)
+    others = r'^status_of \(?(\w+).* = \((\d+), codes "(.*)"\)$'
+    found += re.findall(others, (SPECS / "Faults.antt").read_text(), re.M)
     return {it: (int(code), name) for it, code, name in found}
 
 
@@ -99,15 +99,15 @@ def defined():
 
 # Numbers that no definition has.
 ROOMS = {"WORDS": 12, "CLUBS": 4, "NAME": 20, "NAME_ROOM": 32, "SCREEN_ROOM": 320}
-OTHERS = {**ROOMS, "JSON_ROOM": 1536, "SCHEDULED_WORD": 2 << 60, "VERSION_NUMBER": 1_000_000}
+NUMBERS = {**ROOMS, "JSON_ROOM": 1536, "SCHEDULED_WORD": 2 << 60, "VERSION_NUMBER": 1_000_000}
 
 
 @pytest.mark.quick
 def test_numbers_of_the_header_are_those_of_the_definitions_and_of_rust():
-    others = {"UCLBOARD_" + name: number for name, number in OTHERS.items()}
+    others = {"UCLBOARD_" + name: number for name, number in NUMBERS.items()}
     assert in_header() == {**defined(), **others}
     told = re.findall(r"^(?:pub )?const ([A-Z_]+): \w+ = ([0-9x_]+);$", RUST, re.M)
-    assert {name: int(number, 0) for name, number in told} == OTHERS
+    assert {name: int(number, 0) for name, number in told} == NUMBERS
     for name in "Kind", "Profile":
         listed = re.search(rf"pub enum {name} \{{\n(.*?),\n\}}", RUST, re.S)[1].split(",")
         for number, it in enumerate(listed):
@@ -145,13 +145,11 @@ def blocks(language):
 )
 def test_header_and_programs_of_the_page_compile_without_a_warning(compiler):
     """All lines of C on the page are in programs."""
-    words = [*compiler.split(), *STRICT.split(), "-Wconversion", "-Wshadow", "-fsyntax-only"]
-    assert len(blocks("c")) == 2
-    assert (
-        re.findall(r"^    .*;$", re.sub(r"^```.*?^```$", "", PAGE, flags=re.M | re.S), re.M) == []
-    )
-    for text in blocks("c"):
-        assert compiled([*words, "-x", "c++" if "+" in compiler else "c", "-"], text) == (0, "", "")
+    words = [*f"{compiler} {STRICT} -Wconversion -Wshadow -c -o /dev/null -x".split()]
+    words += ["c++" if "+" in compiler else "c", "-"]
+    assert [compiled(words, text) for text in blocks("c")] == [(0, "", "")] * 2
+    others = re.sub(r"^```.*?^```$", "", PAGE, flags=re.M | re.S)
+    assert re.findall(r"^    .*;$", others, re.M) == []
 
 
 # ---- what is built
@@ -160,14 +158,9 @@ def test_header_and_programs_of_the_page_compile_without_a_warning(compiler):
 @pytest.mark.parametrize("name, which", [("a", "--extern-only"), ("so", "--dynamic")])
 def test_calls_of_the_header_are_all_that_is_shown(library, name, which):
     """But for what linkers add."""
-    words = [
-        "nm",
-        which,
-        "--defined-only",
-        "--format=just-symbols",
-        library / f"libuclboard.{name}",
-    ]
-    names = {*re.findall(r"^\w+$", conftest.command(words).output, re.M)}
+    words = f"nm {which} --defined-only --format=just-symbols".split()
+    shown = conftest.command([*words, library / f"libuclboard.{name}"]).output
+    names = {*re.findall(r"^\w+$", shown, re.M)}
     assert names - {"_init", "_fini", "_edata", "_end", "__bss_start"} == calls().keys()
 
 
@@ -175,13 +168,13 @@ def test_header_code_soname_and_pkg_config_have_one_version(library, board):
     told = conftest.command(["pkg-config", "--modversion", library / "uclboard.pc"]).output
     first, second, third = map(int, told.split("."))
     number = first * 1_000_000 + second * 1000 + third
-    assert number == board.version() == board.VERSION_NUMBER == OTHERS["VERSION_NUMBER"]
+    assert number == board.version() == board.VERSION_NUMBER == NUMBERS["VERSION_NUMBER"]
     dynamic = conftest.command(["readelf", "-d", library / "libuclboard.so"]).output
     assert f"Library soname: [libuclboard.so.{first}]" in dynamic
 
 
 def test_numbers_and_names_of_statuses_in_python(board):
-    assert {name: getattr(board, name) for name in OTHERS} == OTHERS
+    assert {name: getattr(board, name) for name in NUMBERS} == NUMBERS
     raised = {it.__name__: status for status, it in board.EXCEPTIONS.items()}
     assert raised == {it: status for it, (status, _) in statuses().items()}
     names = {0: "done", **dict(statuses().values())}
