@@ -33,6 +33,15 @@ def test_writers_that_share_a_pipe(program, place):
     assert command([place / "examples/evening"]) == (0, text_of(EXAMPLES / "evening.expected"), "")
 
 
+def test_night_in_a_cell_by_the_kits_own_compiler(program):
+    """`rt ci` builds each program twice, by LLVM and by the kit's own compiler."""
+    by_rattle = f"{program('ucl_hostile')}.by-rattle"
+    needs(by_rattle)
+    script, screen = (text_of(EXAMPLES / f"group_a_2021_night.{it}") for it in ("csv", "expected"))
+    ran = command([by_rattle, "refused", "night_run_in_a_cell", "50"], script)
+    assert ran == (0, screen.replace("FINAL\n", "first None\nkept true\n"), "")
+
+
 @pytest.mark.parametrize(
     "page, line, shown",
     [
