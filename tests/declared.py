@@ -62,8 +62,8 @@ def structs(text: str) -> dict[str, list[tuple[str, str, str]]]:
     }
 
 
-def file_of_c(text: str, numbers: dict[str, int]) -> str:
-    """A file of C that compiles only where the header has these calls, structs and numbers."""
+def file_of_c(text: str) -> str:
+    """A file of C that compiles only where the header has these calls and structs."""
     lines = [
         '#include "uclboard.h"',
         "#define SAME(one, other) _Static_assert(__builtin_types_compatible_p(__typeof__(one), __typeof__(other)), #one)",
@@ -81,5 +81,4 @@ def file_of_c(text: str, numbers: dict[str, int]) -> str:
         lines.append(
             f'_Static_assert(sizeof({name}) == sizeof(struct of_{name}), "the size of {name}");'
         )
-    lines += [f'_Static_assert({name} == {number}, "{name}");' for name, number in numbers.items()]
     return "\n".join([*lines, ""])

@@ -11,24 +11,21 @@ from conftest import EXAMPLES, TOP, command, needs, tabled, text_of
 from ucl_hall.terminal import command as terminal
 from ucl_hall.web import options as server
 
-README = text_of(TOP / "README.md")
+README, LIBRARY = (text_of(TOP / name) for name in ("README.md", "docs/LIBRARY.md"))
 WORD_OF = {"sheet": "show", "night": "night"}
 TOLD = "8 lines, 2 shown, 6 passed over\n"
 answers, screens = (text_of(EXAMPLES / f"followed.{ending}") for ending in ("jsonl", "expected"))
+ROWS = {
+    path.stem: (
+        f"ucl_night {WORD_OF.get(path.stem.split('_')[-1], 'feed')}",
+        text_of(path),
+        text_of(path.with_suffix(".expected")),
+    )
+    for path in sorted(EXAMPLES.glob("*.csv"))
+}
+ROWS["what is shown of an evening that is followed"] = ("ucl_follow", answers, screens, 0, TOLD)
 
-test_examples = tabled(
-    {
-        **{
-            f"{path.stem}": (
-                f"ucl_night {WORD_OF.get(path.stem.split('_')[-1], 'feed')}",
-                text_of(path),
-                text_of(path.with_suffix(".expected")),
-            )
-            for path in sorted(EXAMPLES.glob("*.csv"))
-        },
-        "what is shown of an evening that is followed": ("ucl_follow", answers, screens, 0, TOLD),
-    }
-)
+test_examples = tabled(ROWS)
 
 
 def test_writers_that_share_a_pipe(program, place):
@@ -36,23 +33,28 @@ def test_writers_that_share_a_pipe(program, place):
     assert command([place / "examples/evening"]) == (0, text_of(EXAMPLES / "evening.expected"), "")
 
 
-def test_first_look(program, place):
-    """The README's command, typed as it stands there, gives its first table."""
-    program("ucl_live")
-    (line,) = re.findall(r"^\(cat .*$", README, re.M)
-    assert (
-        command(["bash", "-c", line], cwd=place).output
-        == re.search(r"^```\n( +Club(?s:.*?))^```$", README, re.M)[1]
-    )
+def test_night_in_a_cell_by_the_kits_own_compiler(program):
+    """`rt ci` builds each program twice, by LLVM and by the kit's own compiler."""
+    by_rattle = f"{program('ucl_hostile')}.by-rattle"
+    needs(by_rattle)
+    script, screen = (text_of(EXAMPLES / f"group_a_2021_night.{it}") for it in ("csv", "expected"))
+    ran = command([by_rattle, "refused", "night_run_in_a_cell", "50"], script)
+    assert ran == (0, screen.replace("FINAL\n", "first None\nkept true\n"), "")
 
 
-def test_smallest_run(program, place):
-    """The command of docs/REFERENCE.md, typed as it stands there, gives what stands below it."""
-    program("ucl_night")
-    line, shown = re.search(
-        r"^```console\n\$ (.*)\n((?s:.*?))^```$", text_of(TOP / "docs/REFERENCE.md"), re.M
-    ).groups()
-    assert command(["bash", "-c", line], cwd=place).output == shown
+@pytest.mark.parametrize(
+    "page, line, shown",
+    [
+        (README, r"^(\(cat .*)$", r"^```\n( +Club(?s:.*?))^```$"),
+        (text_of(TOP / "docs/REFERENCE.md"), r"^\$ (.*)$", r"^\$ .*\n((?s:.*?))^```$"),
+    ],
+    ids=["README", "REFERENCE"],
+)
+def test_command_of_a_page(program, place, page, line, shown):
+    """The first one, typed as it stands there, gives what the page shows."""
+    program("ucl_live"), program("ucl_night")
+    run = command(["bash", "-c", re.search(line, page, re.M)[1]], cwd=place)
+    assert run.output == re.search(shown, page, re.M)[1]
 
 
 @pytest.mark.quick
@@ -70,10 +72,10 @@ def test_lines_of_pages():
 def test_lines_of_c():
     """The README's lines of C are lines of a program of docs/LIBRARY.md, which is compiled and run by its own test."""
     (lines,), programs = (
-        re.findall(r"^```c\n(.*?)^```$", page, re.M | re.S)
-        for page in (README, text_of(TOP / "docs/LIBRARY.md"))
+        re.findall(r"^```c\n(.*?)^```$", re.sub(r"^ +", "", page, flags=re.M), re.M | re.S)
+        for page in (README, LIBRARY)
     )
-    assert [program for program in programs if lines in re.sub(r"^ +", "", program, flags=re.M)]
+    assert any(lines in program for program in programs)
 
 
 @pytest.mark.quick
@@ -81,38 +83,30 @@ def test_line_that_is_broken():
     """The change of one line that the README shows refused is a mutant, which the gate has refused."""
     new, old = re.search(r"put\s+`(\S+)`\s+in\s+place\s+of\s+`(\S+)`", README).groups()
     edits = [text_of(path) for path in TOP.glob("crates/ucl_order/must-fail/*.edit")]
-    assert [
-        edit
-        for edit in edits
-        if f"file: src/order.rt\nold: for _round in {old} {{\nnew: for _round in {new} {{\n" in edit
-    ]
+    edit = f"file: src/order.rt\nold: for _round in {old} {{\nnew: for _round in {new} {{\n"
+    assert any(edit in text for text in edits)
 
 
 @pytest.mark.quick
 def test_index():
     """The index of examples/ names each file and folder that is there."""
-    names = re.findall(r"`([^` ]+)`", text_of(EXAMPLES / "README.md"))
-    assert [
-        path.name
-        for path in EXAMPLES.iterdir()
-        if path.name != "README.md" and not any(fnmatch.fnmatch(path.name, name) for name in names)
-    ] == []
+    names = ["README.md", *re.findall(r"`([^` ]+)`", text_of(EXAMPLES / "README.md"))]
+    is_named = lambda path: any(fnmatch.fnmatch(path.name, name) for name in names)
+    assert [path.name for path in EXAMPLES.iterdir() if not is_named(path)] == []
 
 
 # ---- sources
+
+CRATES = {line.split()[0].strip(":"): line for line in text_of(TOP / "crates.txt").splitlines()}
 
 
 @pytest.mark.quick
 def test_program_of_the_page():
     """A page shows lines of the crate ucl_example, which the gate proves and runs, and its line of crates.txt."""
-    page = text_of(TOP / "docs/LIBRARY.md")
-    shown = re.search(r"^```rust\n(.*?)^```$", page, re.M | re.S)[1]
-    assert f"\n{shown}" in re.sub(
-        r"^ +", "", text_of(TOP / "crates/ucl_example/src/main.rt"), flags=re.M
-    )
-    assert next(
-        line for line in text_of(TOP / "crates.txt").splitlines() if line.startswith("ucl_example:")
-    ) in " ".join(page.split())
+    shown = re.search(r"^```rust\n(.*?)^```$", LIBRARY, re.M | re.S)[1]
+    program = text_of(TOP / "crates/ucl_example/src/main.rt")
+    assert f"\n{shown}" in re.sub(r"^ +", "", program, flags=re.M)
+    assert CRATES["ucl_example"] in " ".join(LIBRARY.split())
 
 
 # The calls that lend out a pass's seat are there for their contracts, and have no example; nor have laws, whose body is empty.
@@ -134,12 +128,8 @@ def calls_in(text):
 
 
 BOARD_CRATES = ["ucl_live_board", "ucl_pass", "ucl_words"]
-CALLS = [
-    call
-    for crate in BOARD_CRATES
-    for path in sorted((TOP / "crates" / crate).glob("src/*.rt"))
-    for call in calls_in(text_of(path))
-]
+FILES = [path for it in BOARD_CRATES for path in sorted(TOP.glob(f"crates/{it}/src/*.rt"))]
+CALLS = [call for path in FILES for call in calls_in(text_of(path))]
 HEAD = """#![tactic(auto)]
 
 use std::test::Fail;
@@ -152,41 +142,24 @@ use ucl_words::WordBoard;
 @pytest.mark.quick
 def test_doc_comments():
     """Each public call of a board has one example of 3 to 10 lines, which calls it, and there are no other blocks but at the heads of crates."""
-    assert [
-        call
-        for call, blocks in CALLS
-        if len(blocks) != 1 or not re.search(rf"\b{call}\(", blocks[0])
-    ] == []
-    assert [call for call, (block,) in CALLS if not 3 <= block.count("\n") <= 10] == []
-    files = [path for crate in BOARD_CRATES for path in (TOP / "crates" / crate).glob("src/*.rt")]
-    assert (
-        sum(
-            len(BLOCK.findall(re.sub(r"^//!.*\n", "", text_of(path), flags=re.M))) for path in files
-        )
-        == len(CALLS)
-        > 0
-    )
+    for call, found in CALLS:
+        assert len(found) == 1 and re.search(rf"\b{call}\(", found[0]), call
+        assert 3 <= found[0].count("\n") <= 10, call
+    texts = [re.sub(r"^//!.*\n", "", text_of(path), flags=re.M) for path in FILES]
+    assert sum(len(BLOCK.findall(text)) for text in texts) == len(CALLS) > 0
 
 
 @pytest.mark.limit(300)
 def test_examples_of_doc_comments(tmp_path):
     """They are tried as the tests of a crate of their own, unproved."""
     needs("rt")
-    crates = {
-        line.split()[0].strip(":"): line for line in text_of(TOP / "crates.txt").splitlines(True)
-    }
     below = ["ucl_word", "ucl_board", "ucl_log", "ucl_steps", *BOARD_CRATES]
+    ignored = shutil.ignore_patterns("out", "must-fail")
     for crate in below:
-        shutil.copytree(
-            TOP / "crates" / crate,
-            tmp_path / "crates" / crate,
-            ignore=shutil.ignore_patterns("out", "must-fail"),
-        )
+        shutil.copytree(TOP / "crates" / crate, tmp_path / "crates" / crate, ignore=ignored)
     shutil.copy(TOP / "HANDLES", tmp_path)
-    (tmp_path / "crates.txt").write_text(
-        "".join(crates[crate] for crate in below)
-        + "tried tests_may=Threads+Wait: ucl_word ucl_pass ucl_words\n"
-    )
+    tried = "tried tests_may=Threads+Wait: ucl_word ucl_pass ucl_words"
+    (tmp_path / "crates.txt").write_text("\n".join([*map(CRATES.get, below), tried, ""]))
     (tmp_path / "crates/tried/src").mkdir(parents=True)
     tests = [
         f"\n#[test]\nfn example_{number}(rt: HostRuntime) -> Result<(), Fail> {{\n{block}Ok(())\n}}\n"
