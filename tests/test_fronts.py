@@ -15,6 +15,7 @@ from unittest.mock import AsyncMock
 import model
 import pytest
 from drivers.board import Board, lines_to, moment_of
+from pytest import MonkeyPatch
 
 from ucl_hall.engine.answers import Refused, Reply
 from ucl_hall.engine.history import Event
@@ -38,17 +39,27 @@ GOAL = STARTED + "1,1,3,goal-home\n"
 ID = "ab" * 16
 
 
-class Lines:
-    """A display that keeps its lines."""
+class Desk(Session):
+    """Reporter 1 at a terminal, for matches 1 to 3, with all lines that it has shown."""
 
-    def __init__(self) -> None:
+    def __init__(self, board: AnyBoard) -> None:
+        super().__init__(board, 1, [1, 2, 3], self)
         self.lines: list[str] = []
+        board.listen(self.heard)
 
     def show(self, *lines: str) -> None:
         self.lines += lines
 
     def refresh(self) -> None:
         pass
+
+    async def types(self, line: str) -> None:
+        """Types a line, or the answer to a question, and waits for what comes of it."""
+        if self.question is None:
+            self.enter(line, Seen(self.board.moment, ()))
+        else:
+            self.answer(line)
+        await self.idle(5)
 
 
 @pytest.fixture
@@ -62,27 +73,9 @@ def board(loop: asyncio.Runner) -> Board:
 
 
 @pytest.fixture
-def shown() -> Lines:
-    """What a terminal shows."""
-    return Lines()
-
-
-@pytest.fixture
-def session(board: Board, shown: Lines) -> Session:
-    """What reporter 1 types at a terminal, of matches 1 to 3."""
-    followed: AnyBoard = board
-    session = Session(followed, 1, [1, 2, 3], shown)
-    board.listen(session.heard)
-    return session
-
-
-async def typed(session: Session, line: str) -> None:
-    """Types a line, or the answer to a question, and waits for what comes of it."""
-    if session.question is None:
-        session.enter(line, Seen(session.board.moment, ()))
-    else:
-        session.answer(line)
-    await session.idle(5)
+def desk(board: Board) -> Desk:
+    """A terminal over the board."""
+    return Desk(board)
 
 
 def refusal(rows: str) -> Refused:
@@ -178,14 +171,12 @@ async def test_what_a_phone_is_told(board: Board, name: str, way: str) -> None:
 
 
 @pytest.mark.parametrize("name", CASES)
-async def test_what_a_terminal_tells(
-    board: Board, session: Session, shown: Lines, name: str
-) -> None:
+async def test_what_a_terminal_tells(board: Board, desk: Desk, name: str) -> None:
     outcome, *_, told = CASES[name]
     board.answers.append(outcome)
-    await typed(session, "1 goal home")
-    assert shown.lines == [f"{'1 goal home':23} {told}"]
-    assert isinstance(outcome, list) or session.pending.look().waiting == ()
+    await desk.types("1 goal home")
+    assert desk.lines == [f"{'1 goal home':23} {told}"]
+    assert isinstance(outcome, list) or desk.pending.look().waiting == ()
 
 
 REFUSALS = {
@@ -212,14 +203,14 @@ REFUSALS = {
 
 
 @pytest.mark.parametrize("name", REFUSALS)
-async def test_refusals(board: Board, session: Session, shown: Lines, name: str) -> None:
+async def test_refusals(board: Board, desk: Desk, name: str) -> None:
     """Each by its name, in a sentence that a button has room for; and by what to type."""
     rows, advice = REFUSALS[name]
     got, told = await at_phone(board, [refusal(rows)])
     assert got == name and told.startswith("Not entered: ") and len(told) < 80
     board.answers.append([refusal(rows)])
-    await typed(session, "1 goal home")
-    assert shown.lines[0].startswith(f"{'1 goal home':23} refused: {advice}")
+    await desk.types("1 goal home")
+    assert desk.lines[0].startswith(f"{'1 goal home':23} refused: {advice}")
 
 
 # ---- at a phone
@@ -276,60 +267,58 @@ async def test_the_last_events_have_the_numbers_that_they_gave_their_match(board
         ),
     ],
 )
-async def test_lines_that_send_nothing(
-    board: Board, session: Session, shown: Lines, line: str, told: str
-) -> None:
-    await typed(session, line)
-    assert shown.lines == [f"{line:23} {told}"] and board.sent == []
+async def test_lines_that_send_nothing(board: Board, desk: Desk, line: str, told: str) -> None:
+    await desk.types(line)
+    assert desk.lines == [f"{line:23} {told}"] and board.sent == []
 
 
-async def test_what_is_asked_at_a_terminal(board: Board, session: Session, shown: Lines) -> None:
+async def test_what_is_asked_at_a_terminal(board: Board, desk: Desk) -> None:
     """What may be typed, and which events of a match stand, with their rows."""
     board.stand += [Event(6, 1, 1, "kickoff"), Event(9, 2, 1, "second-yellow-away")]
-    await typed(session, "help")
-    assert shown.lines == LINES.splitlines()
-    await typed(session, " 1 ")
-    assert shown.lines[-3:] == [
+    await desk.types("help")
+    assert desk.lines == LINES.splitlines()
+    await desk.types(" 1 ")
+    assert desk.lines[-3:] == [
         " 1 Bravo 1-1 Charlie, in play, event 3 by 1",
         "   row 6: 1 kickoff by reporter 1",
         "   row 9: 1 second yellow away by reporter 2",
     ]
 
 
-async def test_a_result(board: Board, session: Session, shown: Lines) -> None:
+async def test_a_result(board: Board, desk: Desk) -> None:
     """The fewest events are sent at once, and what stands behind the last is told."""
     events = "kickoff goal-home goal-home goal-away yellow-away red-home fulltime".split()
     rows = [Row(3, number, event) for number, event in enumerate(events)]
     lines = [row.line(1).decode() for row in rows]
     moments = [moment_of(STARTED + "".join(lines[:count])) for count in range(1, 8)]
     board.answers.append([Entered(at, it.match(3)) for at, it in enumerate(moments, 9)])
-    await typed(session, "3 result 2-1  yellows 0-1 reds 1-0")
+    await desk.types("3 result 2-1  yellows 0-1 reds 1-0")
     (sent,) = board.sent
     assert isinstance(sent, Events) and (*sent.rows,) == (*rows,) and sent.way is Way.FIRST
     told = "entered, row 15: Alpha 2-1 Bravo, finished, event 7 by 1, Y 0-1, E 1-0"
-    assert shown.lines == [f"3 result 2-1 yellows 0-1 reds 1-0 {told}"]
+    assert desk.lines == [f"3 result 2-1 yellows 0-1 reds 1-0 {told}"]
 
 
-async def test_a_line_goes_with_what_was_seen(board: Board, session: Session) -> None:
+async def test_a_line_goes_with_what_was_seen(board: Board, desk: Desk) -> None:
     """That is an edition that is over by now, and own rows that are on their way."""
     seen = Seen(board.moment, (1, 2, 1))
     board.moment = moment_of(GOAL + "mend,7,,\n")
     board.answers.append(Dropped(1))
-    session.enter("1 goal home", seen)
-    await session.idle(5)
+    desk.enter("1 goal home", seen)
+    await desk.idle(5)
     (sent,) = board.sent
     assert isinstance(sent, Events)
     assert (*sent.rows,) == (Row(1, 5, "goal-home"),) and sent.edition == 0
 
 
-async def test_what_others_enter_is_told(board: Board, session: Session, shown: Lines) -> None:
+async def test_what_others_enter_is_told(board: Board, desk: Desk) -> None:
     """With its row, and its match as it stands; what is one's own is not."""
     answers = [answer_of(line) for line in lines_to(STARTED + "2,1,3,goal-home\n")][-2:]
     board.tell(reply_of(answers))
     told = "row 9: 1 goal home by reporter 2: Bravo 2-1 Charlie, in play, event 4 by 2"
-    assert shown.lines == [told]
+    assert desk.lines == [told]
     board.tell(Reply(refusal("1,1,2,goal-home\n")))
-    assert shown.lines == [told]
+    assert desk.lines == [told]
 
 
 def test_own_rows_of_an_edition_that_is_over_wait_no_more() -> None:
@@ -360,50 +349,44 @@ LEFT_OUT, MENDED, SCREEN = [answer_of(line) for line in lines_to(CAME + "mend,7,
 ASKED = "mend 7: edition 1 would begin"
 
 
-async def test_a_mend_that_would_do_something_else_by_now(
-    board: Board, session: Session, shown: Lines
-) -> None:
+async def test_a_mend_that_would_do_something_else_by_now(board: Board, desk: Desk) -> None:
     """It is shown anew and asked again; what it left out is told as lines that bring it back."""
     board.trials.append(trial_of(STARTED))
     board.answers += [Changed(trial_of(CAME, LEFT_OUT)), [MENDED]]
-    await typed(session, "mend 7")
-    assert shown.lines == [ASKED] and session.question
-    await typed(session, "y")
+    await desk.types("mend 7")
+    assert desk.lines == [ASKED] and desk.question
+    await desk.types("y")
     anew = "nothing is appended: rows have come since, so look at it again"
     also = "left out too, no-goal: row 9: 1 disallow home by reporter 2"
-    assert shown.lines[1:] == [anew, ASKED, also]
-    await typed(session, "YES ")
-    assert shown.lines[4:] == [f"{'mend 7':23} entered, row 10"] and not session.question
+    assert desk.lines[1:] == [anew, ASKED, also]
+    await desk.types("YES ")
+    assert desk.lines[4:] == [f"{'mend 7':23} entered, row 10"] and not desk.question
     agreed = [it.agreed.left_out for it in board.sent if isinstance(it, Mend)]
     assert agreed == [(), (LEFT_OUT,)]
     board.tell(reply_of([LEFT_OUT, MENDED, SCREEN]))
     back = "To have back what was left out too, if it holds, type:"
-    assert shown.lines[5:] == ["Edition 1 has begun: look at the matches", back, "1 disallow home"]
+    assert desk.lines[5:] == ["Edition 1 has begun: look at the matches", back, "1 disallow home"]
 
 
 @pytest.mark.parametrize("answer", ["n", "", "no", "yy", "1"])
-async def test_nothing_but_yes_is_yes(
-    board: Board, session: Session, shown: Lines, answer: str
-) -> None:
+async def test_nothing_but_yes_is_yes(board: Board, desk: Desk, answer: str) -> None:
     board.trials.append(trial_of(STARTED))
-    await typed(session, "mend 7")
-    await typed(session, answer)
-    assert shown.lines[1:] == ["Nothing is appended"] and board.sent == []
+    await desk.types("mend 7")
+    await desk.types(answer)
+    assert desk.lines[1:] == ["Nothing is appended"] and board.sent == []
 
 
 @pytest.mark.parametrize("is_asked", [False, True])
-async def test_a_mend_that_the_rules_refuse(
-    board: Board, session: Session, shown: Lines, is_asked: bool
-) -> None:
+async def test_a_mend_that_the_rules_refuse(board: Board, desk: Desk, is_asked: bool) -> None:
     """At once, or by the time that somebody agrees: what to do about it is told."""
     refused = MendRefused(refusal("mend,99,,\n"))
     board.trials.append(trial_of(STARTED) if is_asked else refused)
     board.answers.append(refused)
-    await typed(session, "mend 7")
+    await desk.types("mend 7")
     if is_asked:
-        await typed(session, "y")
+        await desk.types("y")
     told = "it is no event that stands; a match alone, as 1, shows its events with their rows"
-    assert shown.lines[is_asked:] == [f"{'mend 7':23} refused: {told}"] and not session.question
+    assert desk.lines[is_asked:] == [f"{'mend 7':23} refused: {told}"] and not desk.question
 
 
 @pytest.mark.parametrize(
@@ -412,9 +395,8 @@ async def test_a_mend_that_the_rules_refuse(
 )
 async def test_a_mend_by_the_command_line(
     board: Board,
-    session: Session,
-    shown: Lines,
-    monkeypatch: pytest.MonkeyPatch,
+    desk: Desk,
+    monkeypatch: MonkeyPatch,
     option: str,
     answers: str,
     count: int,
@@ -427,21 +409,21 @@ async def test_a_mend_by_the_command_line(
     board.trials.append(trial_of(STARTED))
     board.answers += [Changed(trial_of(CAME, LEFT_OUT)), [MENDED]]
     options = command.options_of(f"a.csv --mend 7 {option}".split())
-    mend = command._mend(session, options, shown)
+    mend = command._mend(desk, options, desk)
     (status,) = await asyncio.gather(mend, return_exceptions=True)
     nothing = "nothing is appended; with --yes it is, without a question"
     assert (status == 0) == (count == 2) and (status == 0 or str(status) == nothing)
     assert len(board.sent) == count and left == []
     clubs = "1 Alpha 60000, 2 Bravo 95000, 3 Charlie 60000, 4 Delta 81500"
     before = [f"Before: {clubs}", *words.table(moment_of(STARTED)), f"After: {clubs}"]
-    assert shown.lines[:10] == [ASKED, *before, "GROUP B v00002 IN PLAY 1 EDITION 1"]
+    assert desk.lines[:10] == [ASKED, *before, "GROUP B v00002 IN PLAY 1 EDITION 1"]
 
 
 # ---- without a terminal
 
 
 @pytest.fixture
-def given(monkeypatch: pytest.MonkeyPatch) -> list[str]:
+def given(monkeypatch: MonkeyPatch) -> list[str]:
     """Lines of the input of a program."""
     lines = list[str]()
 
@@ -467,8 +449,7 @@ def given(monkeypatch: pytest.MonkeyPatch) -> list[str]:
 )
 async def test_the_first_line_that_is_refused_ends_the_input(
     board: Board,
-    session: Session,
-    shown: Lines,
+    desk: Desk,
     given: list[str],
     line: str,
     outcome: Any,
@@ -479,21 +460,21 @@ async def test_the_first_line_that_is_refused_ends_the_input(
     board.answers += [entered, outcome]
     given += ["", "  1  goal home ", line, "2 kickoff"]
     with pytest.raises(NotEntered) as refused:
-        await batch.enter_lines(session, 0)
+        await batch.enter_lines(desk, 0)
     assert str(refused.value) == f"{line[:200]}: {told}"
-    assert shown.lines == [f"{'1 goal home':23} {row}"]
+    assert desk.lines == [f"{'1 goal home':23} {row}"]
     assert len(board.sent) == (1 if outcome is None else 2)
 
 
-async def test_rows_with_their_numbers(board: Board, session: Session, given: list[str]) -> None:
+async def test_rows_with_their_numbers(board: Board, desk: Desk, given: list[str]) -> None:
     """They may have been given before. They are of one edition; a line is of the board's."""
     board.moment = moment_of(STARTED + "mend,7,,\n")
     given += ["2 kickoff", "1,1,2,goal-home"]
     board.answers += [[Event(9, 1, 2, "kickoff")], [Event(10, 1, 1, "goal-home")]] * 2
-    await batch.enter_lines(session, 1)
+    await batch.enter_lines(desk, 1)
     told = "this is of edition 0, and the board of edition 1: look at the matches"
     with pytest.raises(NotEntered, match=told):
-        await batch.enter_lines(session, 0)
+        await batch.enter_lines(desk, 0)
     sent = [(it.way, it.edition, *it.rows) for it in board.sent if isinstance(it, Events)]
     line = Way.FIRST, 1, Row(2, 0, "kickoff")
     assert sent == [line, (Way.AGAIN, 1, Row(1, 2, "goal-home")), line]
@@ -525,7 +506,7 @@ def test_command_lines_that_are_refused(capsys: pytest.CaptureFixture[str], line
 
 
 async def test_a_record_that_another_has_begun_meanwhile(
-    monkeypatch: pytest.MonkeyPatch, capsys: pytest.CaptureFixture[str]
+    monkeypatch: MonkeyPatch, capsys: pytest.CaptureFixture[str]
 ) -> None:
     """Who is second is told, and uses it."""
     monkeypatch.setenv("UCL_LIVE", "ucl_live")

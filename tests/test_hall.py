@@ -73,19 +73,7 @@ def test_each_answer_is_read() -> None:
 
 
 ODD: list[object] = [
-    None,
-    True,
-    -1,
-    1 << 70,
-    1.5,
-    "",
-    "x\x1b[2J",
-    [],
-    {},
-    [[]],
-    "IN PLAY",
-    4096,
-    "\ud800",
+    *(None, True, -1, 1 << 70, 1.5, "", "x\x1b[2J", [], {}, [[]], "IN PLAY", 4096, "\ud800"),
 ]
 
 

@@ -27,6 +27,7 @@ from drivers.board import moment_of
 from drivers.program import needs
 from drivers.text import append_to, text_of
 from model import Session
+from pytest import MonkeyPatch
 
 from ucl_hall.engine.answers import Answer, Mended, Refused, Reply
 from ucl_hall.engine.history import Event
@@ -112,7 +113,7 @@ def record(
 
 
 @pytest.fixture
-def before_sync(monkeypatch: pytest.MonkeyPatch) -> Do:
+def before_sync(monkeypatch: MonkeyPatch) -> Do:
     """A function that has something done from now on before a file is forced to the disk."""
     sync = os.fsync
 
@@ -175,7 +176,7 @@ async def test_rows_go_in_behind_what_was_read(path: str) -> None:
 
 
 async def test_an_append_is_on_the_disk_before_it_is_answered(
-    record: Record, path: str, monkeypatch: pytest.MonkeyPatch
+    record: Record, path: str, monkeypatch: MonkeyPatch
 ) -> None:
     """Under the lock all rows go in by one write, for which there is room already."""
     calls = list[str]()
@@ -289,9 +290,7 @@ async def test_what_is_asked_about(record: Record) -> None:
     assert await record.enter(sent(*again.rows, way=Way.AGAIN)) == [Event(9, 1, 1, "goal-home")]
 
 
-async def test_answers_of_a_thousand_are_kept(
-    record: Record, monkeypatch: pytest.MonkeyPatch
-) -> None:
+async def test_answers_of_a_thousand_are_kept(record: Record, monkeypatch: MonkeyPatch) -> None:
     """The oldest are forgotten, of each reporter apart; one that waits is not."""
     monkeypatch.setattr("ucl_hall.record.writer.MOST_ANSWERS", 3)
     ids = [str(number) * 32 for number in range(5)]
@@ -428,7 +427,7 @@ async def test_what_is_no_record(path: str, live: str, text: str, fault: str) ->
         await Record.open(path, "/none/it")
 
 
-async def test_a_child_of_another_version(record: Record, monkeypatch: pytest.MonkeyPatch) -> None:
+async def test_a_child_of_another_version(record: Record, monkeypatch: MonkeyPatch) -> None:
     """A line that is none of its answers ends the record by a fault, and nobody waits for ever."""
 
     def no_answer(_: bytes) -> Answer:
@@ -493,7 +492,7 @@ async def test_what_else_stands_in_a_record(record: Record, path: str) -> None:
     ],
 )
 async def test_a_last_line_without_an_end(
-    path: str, live: str, cut: str, version: int, is_held: bool, monkeypatch: pytest.MonkeyPatch
+    path: str, live: str, cut: str, version: int, is_held: bool, monkeypatch: MonkeyPatch
 ) -> None:
     """It gets one by a write of its own when the record is opened; if another holds the lock then,
     before the next append, which a mend that it turns out to be drops."""
@@ -604,7 +603,7 @@ async def test_a_full_disk(
 
 @pytest.mark.parametrize("code", [errno.ENOSPC, errno.EDQUOT, errno.ENOSYS, errno.EOPNOTSUPP])
 async def test_space_that_is_not_reserved(
-    record: Record, monkeypatch: pytest.MonkeyPatch, code: int
+    record: Record, monkeypatch: MonkeyPatch, code: int
 ) -> None:
     """Where there is none nothing was entered; where the call is not there the row is written."""
     libc = types.SimpleNamespace(fallocate64=lambda *_: ctypes.set_errno(code) or -1)
@@ -673,7 +672,7 @@ async def test_a_disk_that_fails(record: Record, before_sync: Do) -> None:
 
 
 async def test_a_row_that_comes_between(
-    record: Record, path: str, monkeypatch: pytest.MonkeyPatch
+    record: Record, path: str, monkeypatch: MonkeyPatch
 ) -> None:
     """Whoever appends takes no lock: the answer is that of the own row."""
     write = os.write
@@ -786,7 +785,7 @@ def test_a_new_record_on_a_disk_that_fails(
 
 @pytest.mark.parametrize("code", [errno.ENOSYS, errno.EINVAL])
 def test_a_record_begins_where_a_file_can_not_be_moved_so(
-    folder: pathlib.Path, path: str, monkeypatch: pytest.MonkeyPatch, code: int
+    folder: pathlib.Path, path: str, monkeypatch: MonkeyPatch, code: int
 ) -> None:
     """It gets its name by a link; where there are no links either that is told."""
     libc = types.SimpleNamespace(renameat2=lambda *_: ctypes.set_errno(code) or -1)
@@ -820,7 +819,7 @@ def test_a_share(tmp_path: pathlib.Path, kind_of_it: str, is_share: bool) -> Non
 
 
 async def test_a_record_on_a_share_is_only_looked_at(
-    path: str, live: str, monkeypatch: pytest.MonkeyPatch
+    path: str, live: str, monkeypatch: MonkeyPatch
 ) -> None:
     """It is neither begun nor appended to there."""
     monkeypatch.setattr(disk, "is_on_share", lambda path: True)

@@ -9,7 +9,7 @@ import random
 import re
 import signal
 import time
-from collections.abc import Callable, Iterator
+from collections.abc import Iterator
 
 import model
 import pytest
@@ -23,31 +23,31 @@ pytestmark = pytest.mark.limit(300)
 BEGUN: str = "group,B,uefa,0\n" + model.CLUBS
 STARTED = BEGUN + "1,1,0,kickoff\n1,1,1,goal-home\n1,1,2,goal-away\n"
 UP, EMPTIED, INTERRUPT, END = "\x1b[A", "\x15", "\x03", "\x04"
-Hall = Callable[..., Evening]
 
 
 @pytest.fixture
-def hall(tmp_path: pathlib.Path, live: str) -> Iterator[Hall]:
-    """A function that makes a folder with the program and a record."""
-    with contextlib.ExitStack() as ends:
+def record() -> str | None:
+    """What a record has when the program is started; None where there is none yet."""
+    return STARTED
 
-        def made(record: str | None = STARTED) -> Evening:
-            evening = Evening(tmp_path, live, record)
-            ends.callback(evening.kill)
-            return evening
 
-        yield made
+@pytest.fixture
+def evening(tmp_path: pathlib.Path, live: str, record: str | None) -> Iterator[Evening]:
+    """A folder with the program and a record."""
+    evening = Evening(tmp_path, live, record)
+    yield evening
+    evening.kill()
 
 
 # ---- keys, and what is drawn
 
 
+@pytest.mark.parametrize("record", [None])
 @pytest.mark.quick
-def test_the_first_evening(hall: Hall) -> None:
+def test_the_first_evening(evening: Evening) -> None:
     """From nothing: what is asked, the record that is made, a match, its table; and the same line
     goes on the next day."""
-    first = hall(None)
-    one = first.terminal()
+    one = evening.terminal()
     for question, typed, answer in [
         *(("group", "x", "a letter from A to H"), ("group", "b", "Order")),
         *(("", "uefa", "slot 1"), ("", "Atlético", "without accents, digits")),
@@ -57,24 +57,23 @@ def test_the_first_evening(hall: Hall) -> None:
     ]:
         one.sees(question).enter(typed, answer)
     begun = BEGUN.replace("Charlie,60000", '"Char, ""lie""",0')
-    assert text_of(first.record) == begun and [*first.path.glob("*even*")] == [first.record]
+    assert text_of(evening.record) == begun and [*evening.path.glob("*even*")] == [evening.record]
     told = 'entered, row 6: Bravo 0-0 Char, "lie", in play, event 1 by 1'
     one.sees("12 Delta").enter("1 kickoff", f"1 kickoff               {told}")
     one.enter("1 Goal HOME", "entered, row 7: Bravo 1-0").enter("mned 17", "mend?")
     board = one.board()
-    assert board.startswith(first.table()) and " 2 Delta v Alpha, to come\n" in board
+    assert board.startswith(evening.table()) and " 2 Delta v Alpha, to come\n" in board
     assert board.endswith("\n>") and one.end() == 0 and one.is_as_before()
-    again = first.reporter("--number", "7", "--matches", "1,2")
+    again = evening.reporter("--number", "7", "--matches", "1,2")
     again.enter("1 second yellow home", "has no yellow").enter("1 yellow home", "entered, row 9")
     again.enter("3 kickoff", "match 3 is not yours")
-    assert again.board().count("\n") == 8 and again.board().startswith(first.table())
+    assert again.board().count("\n") == 8 and again.board().startswith(evening.table())
 
 
-def test_keys(hall: Hall) -> None:
+def test_keys(evening: Evening) -> None:
     """Letters are taken back, a line is emptied, the cursor moves, a line is recalled, Tab completes
     events and clubs; an empty Enter enters nothing. What answers a question is not recalled."""
-    keys = hall()
-    one = keys.reporter().sees("12 Delta")
+    one = evening.reporter().sees("12 Delta")
     one.type("1 goal awway\x7f\x7f\x7fay\r").sees("1 goal away             entered, row 9")
     one.type(f"rubbish{EMPTIED}\r1 rd home" + "\x1b[D" * 6 + "e\x05\r").sees("1 red home    ")
     one.sees("entered, row 10").type(UP).sees("> 1 red home").type(UP).sees("> 1 goal away")
@@ -86,52 +85,50 @@ def test_keys(hall: Hall) -> None:
     one.type("\r").board()
     one.enter("n", "Nothing is appended").type(UP).sees("> mend 7").enter("", "append it?")
     one.enter("y", "Edition 1 has begun").type(UP).sees("> mend 7").type(EMPTIED)
-    assert one.end(f"\r\r{END}") == 0 and keys.rows()[13:] == ["mend,7,,\n"]
+    assert one.end(f"\r\r{END}") == 0 and evening.rows()[13:] == ["mend,7,,\n"]
     assert one.is_as_before()
 
 
 @pytest.mark.quick
-def test_a_line_goes_with_what_was_seen_at_its_first_letter(hall: Hall) -> None:
+def test_a_line_goes_with_what_was_seen_at_its_first_letter(evening: Evening) -> None:
     """Typed, recalled or completed; one that was emptied begins anew."""
-    seen = hall()
-    one = seen.reporter().sees("12 Delta")
+    one = evening.reporter().sees("12 Delta")
     typed = [("1 g", "1 g", "oal home"), (UP, "1 goal home", ""), ("1 k\t", "1 kickoff", "")]
     typed.append(("1 red", "1 red", f"{EMPTIED}1 goal away"))
     for number, (keys, line, rest) in enumerate(typed, 3):
         one.type(keys).sees(f"> {line}")
-        append_to(seen.record, f"2,1,{number},goal-home\n")
+        append_to(evening.record, f"2,1,{number},goal-home\n")
         one.sees(f"event {number + 1} by 2", 2).type(f"{rest}\r")
         stale = f"refused: match 1 has event number {number + 1} by now, and you had seen {number}"
         one.sees("1 goal away             entered, row 16" if EMPTIED in rest else stale)
 
 
-def test_what_waits_is_taken_before_a_newer_moment_is_drawn(hall: Hall) -> None:
+def test_what_waits_is_taken_before_a_newer_moment_is_drawn(evening: Evening) -> None:
     """A line is typed while the program is stopped, and an event comes before it goes on: it was
     typed at the moment that stood there."""
-    waits = hall()
-    one = waits.reporter().sees("12 Delta")
+    one = evening.reporter().sees("12 Delta")
     for number in range(3, 11):
         one.board()
         one.process.send_signal(signal.SIGSTOP)
-        append_to(waits.record, f"2,1,{number},goal-home\n")
+        append_to(evening.record, f"2,1,{number},goal-home\n")
         one.type("1 goal home\r")
         time.sleep(0.3)
         one.process.send_signal(signal.SIGCONT)
         one.sees(f"has event number {number + 1} by now, and you had seen {number}")
 
 
-def test_lines_that_are_pasted(hall: Hall) -> None:
+@pytest.mark.parametrize("record", [BEGUN])
+def test_lines_that_are_pasted(evening: Evening) -> None:
     """Each is a line of its own, as seen at the paste, with the own rows that wait; the last has no
     end and stays; without marks of a paste too."""
-    pasted = hall(BEGUN)
-    one = pasted.reporter().sees("12 Delta")
+    one = evening.reporter().sees("12 Delta")
     one.paste("1 kickoff\r\n1 goal home\n\n1 goal away\nrubbish\n1 red home\n1 fullt")
     one.sees("1 red home              entered, row 9").sees("> 1 fullt").enter("ime", "row 10")
     one.type("2 kickoff\r2 goal home\r2 goal away\r")
     one.sees("2 goal away             entered, row 13")
     first = ["kickoff", "goal-home", "goal-away", "red-home", "fulltime"]
     events = [(1, *it) for it in enumerate(first)] + [(2, *it) for it in enumerate(first[:3])]
-    assert pasted.rows()[5:] == [f"1,{match},{at},{event}\n" for match, at, event in events]
+    assert evening.rows()[5:] == [f"1,{match},{at},{event}\n" for match, at, event in events]
 
 
 WORDS = """1 2 3 13 999999999999 kickoff goal home away yellow red second-yellow fulltime reopen result
@@ -140,10 +137,10 @@ WORDS = """1 2 3 13 999999999999 kickoff goal home away yellow red second-yellow
 KEYS = ["", UP, "\x7f", EMPTIED, "\t", "\x1b", "\x00", "\x18", "\x1b[200~1 goal\nhome\n\x1b[201~"]
 
 
-def test_whatever_is_typed(hall: Hall) -> None:
+def test_whatever_is_typed(evening: Evening) -> None:
     """Nothing that is typed ends it, and no row that comes of it is a bad one."""
-    odd, chance = hall(), random.Random(11)
-    one = odd.reporter().sees("12 Delta")
+    chance = random.Random(11)
+    one = evening.reporter().sees("12 Delta")
     for _ in range(120):
         count = chance.choice([1, 1, 2, 3, 3, 3, 4, 5])
         one.type(" ".join(chance.choices([*WORDS.split(), *KEYS], k=count)) + "\r")
@@ -152,15 +149,15 @@ def test_whatever_is_typed(hall: Hall) -> None:
     one.type(f"{EMPTIED}\rn\r{EMPTIED}").board()
     one.enter("mend", "would begin").enter("y", " has begun")
     assert one.end() == 0 and one.is_as_before()
-    evening, answers = odd.evening()
-    assert not any("bad-row" in it for it in answers) and evening.style.edition > 0
-    assert odd.watched() == odd.table()
+    board, answers = evening.played()
+    assert not any("bad-row" in it for it in answers) and board.style.edition > 0
+    assert evening.watched() == evening.table()
 
 
-def test_a_small_terminal_and_another_size(hall: Hall) -> None:
+def test_a_small_terminal_and_another_size(evening: Evening) -> None:
     """What does not fit is cut, and the line that is typed stays, at once also where the size
     changes; COLUMNS counts for nothing."""
-    one = hall().terminal(size=(9, 40), env={"COLUMNS": "200", "LINES": "3"})
+    one = evening.terminal(size=(9, 40), env={"COLUMNS": "200", "LINES": "3"})
     one.sees("GROUP B v00003").enter("1 red home", "entered, row 9")
     lines = one.board().split("\n")
     assert len(lines) == 8 and max(map(len, lines)) < 40 and lines[-1] == ">"
@@ -170,19 +167,19 @@ def test_a_small_terminal_and_another_size(hall: Hall) -> None:
     assert one.board().endswith("\n> 1 goal")
 
 
-def test_watch_waits_for_its_record(hall: Hall) -> None:
+@pytest.mark.parametrize("record", [None])
+def test_watch_waits_for_its_record(evening: Evening) -> None:
     """A screen may be started first; it takes no input, and asks for no lock."""
-    late = hall(None)
-    watch = late.terminal("--watch", "--matches", "1")
+    watch = evening.terminal("--watch", "--matches", "1")
     time.sleep(0.3)
-    append_to(late.record, STARTED)
-    with open(late.record) as file:
+    append_to(evening.record, STARTED)
+    with open(evening.record) as file:
         fcntl.flock(file, fcntl.LOCK_EX)
         watch.sees("Bravo 1-1 Charlie").type("1 goal home\r\x1b[200~x\ny\n\x1b[201~")
-        append_to(late.record, "1,1,3,goal-home\n")
+        append_to(evening.record, "1,1,3,goal-home\n")
         watch.sees("Bravo 2-1 Charlie")
-    assert late.rows()[8:] == ["1,1,3,goal-home\n"] and late.watched() == late.table()
-    assert watch.board() == late.table() + " 1 Bravo 2-1 Charlie, in play, event 4 by 1"
+    assert evening.rows()[8:] == ["1,1,3,goal-home\n"] and evening.watched() == evening.table()
+    assert watch.board() == evening.table() + " 1 Bravo 2-1 Charlie, in play, event 4 by 1"
     assert watch.end(INTERRUPT) == 130 and watch.is_as_before()
 
 
@@ -190,11 +187,10 @@ def test_watch_waits_for_its_record(hall: Hall) -> None:
 
 
 @pytest.mark.quick
-def test_the_lines_of_a_pipe(hall: Hall) -> None:
+def test_the_lines_of_a_pipe(evening: Evening) -> None:
     """The first that is refused ends the run, while more may come, and is told in one line; what
     the board has is passed over."""
-    piped = hall()
-    with Started(["./ucl_reporter", "evening.csv"], cwd=piped.path, env=piped.env) as ran:
+    with Started(["./ucl_reporter", "evening.csv"], cwd=evening.path, env=evening.env) as ran:
         ran.write("1,1,0,kickoff\n\n  1,1,3,red-home \n2 goal home\n\x1b[2J\n2 kick")
         assert ran.wait() == 1
         told = ran.end()
@@ -203,7 +199,7 @@ def test_the_lines_of_a_pipe(hall: Hall) -> None:
         "1,1,3,red-home          entered, row 9: Bravo 1-1 Charlie, in play, event 4 by 1, E 1-0",
     ]
     assert told.errors.startswith("ucl_reporter: 2 goal home: refused: match 2 has not kicked off")
-    assert told.errors.count("\n") == 1 and piped.rows()[9:] == ["1,2,0,goal-home\n"]
+    assert told.errors.count("\n") == 1 and evening.rows()[9:] == ["1,2,0,goal-home\n"]
 
 
 @pytest.mark.parametrize(
@@ -217,10 +213,10 @@ def test_the_lines_of_a_pipe(hall: Hall) -> None:
         (STARTED, "", "club é\x1b[2J\n", "club ??[2J: type club 2 Real Madrid, or coefficient"),
     ],
 )
-def test_what_ends_it(hall: Hall, record: str | None, words: str, input: str, told: str) -> None:
+def test_what_ends_it(evening: Evening, words: str, input: str, told: str) -> None:
     """In one line, of letters that the output has."""
     env = {"PYTHONIOENCODING": "ascii"}
-    status, output, errors = hall(record).run(*words.split(), input=input, env=env)
+    status, output, errors = evening.run(*words.split(), input=input, env=env)
     assert (status, output, errors.count("\n")) == (1, "", 1)
     assert errors.startswith(f"ucl_reporter: {told}")
 
@@ -234,35 +230,33 @@ def test_ctrl_c_while_modules_are_read(tmp_path: pathlib.Path, name: str) -> Non
     assert ran == Run(-signal.SIGINT, "", "")
 
 
-def test_without_the_libraries(hall: Hall) -> None:
+def test_without_the_libraries(evening: Evening) -> None:
     """Where no terminal is asked for, none is needed; else one line says what to install."""
-    lacks = hall()
-    (lacks.path / "prompt_toolkit.py").write_text("raise ImportError('not here')\n")
-    env = {"PYTHONPATH": str(lacks.path)}
-    assert "entered, row 9" in lacks.run(input="1 red home\n", env=env).output
-    assert lacks.run("--mend", "7", "--yes", env=env).status == 0
-    one = lacks.terminal(env=env)
+    (evening.path / "prompt_toolkit.py").write_text("raise ImportError('not here')\n")
+    env = {"PYTHONPATH": str(evening.path)}
+    assert "entered, row 9" in evening.run(input="1 red home\n", env=env).output
+    assert evening.run("--mend", "7", "--yes", env=env).status == 0
+    one = evening.terminal(env=env)
     one.sees("there is no prompt_toolkit: apt install python3-prompt-toolkit")
     assert one.ends() == 1 and one.is_as_before()
 
 
-def test_who_may_only_read_looks_on(hall: Hall) -> None:
+def test_who_may_only_read_looks_on(evening: Evening) -> None:
     """A file of mode 0444 of another user, and a lock that is held for ever."""
     if os.geteuid() != 0:
         pytest.skip("another user needs root")
     needs("setpriv")
-    mine = hall()
-    mine.record.chmod(0o444)
-    for folder in [mine.path, *mine.path.parents][:-2]:
+    evening.record.chmod(0o444)
+    for folder in [evening.path, *evening.path.parents][:-2]:
         folder.chmod(folder.stat().st_mode | 0o055)
-    mine.before = ["timeout", "5", "setpriv", "--reuid=65534", "--clear-groups"]
-    with open(mine.record) as file:
+    evening.before = ["timeout", "5", "setpriv", "--reuid=65534", "--clear-groups"]
+    with open(evening.record) as file:
         fcntl.flock(file, fcntl.LOCK_EX)
         for words, wanted in [
-            *(("--watch", mine.table()), ("--sheet", model.CLUBS), ("--rows", STARTED)),
+            *(("--watch", evening.table()), ("--sheet", model.CLUBS), ("--rows", STARTED)),
             ("", "Permission denied"),
         ]:
-            ran = mine.run(*words.split())
+            ran = evening.run(*words.split())
             assert wanted in ran.output + ran.errors, ran
 
 
@@ -293,34 +287,32 @@ def send(one: Terminal, sent: str | int) -> None:
         ("1 goal home\r", "1 goal home .. >"),
     ],
 )
-def test_it_ends(hall: Hall, sent: str | int, status: int, typed: str, seen: str) -> None:
+def test_it_ends(evening: Evening, sent: str | int, status: int, typed: str, seen: str) -> None:
     """By a key, by a signal, or since its record is another by now; in a line, a question or an
     append, whose end it tells. The terminal is as it was, and nothing else was appended."""
-    ended = hall()
-    one, rows = ended.reporter().sees("12 Delta"), STARTED
-    with open(ended.record) as file:
+    one, rows = evening.reporter().sees("12 Delta"), STARTED
+    with open(evening.record) as file:
         fcntl.flock(file, fcntl.LOCK_EX)
         send(one.type(typed).sees(seen), sent)
         if not sent:
             rows = BEGUN
-            os.truncate(ended.record, len(rows))
+            os.truncate(evening.record, len(rows))
         time.sleep(0.3)
     if not sent:
         one.sees("ucl_reporter: evening.csv has become another file, or shorter; a record only")
     elif "home" in typed:
         one.sees("1 goal home             entered, row 9")
         rows += "1,1,3,goal-home\n"
-    assert one.ends() == status and one.is_as_before() and text_of(ended.record) == rows
+    assert one.ends() == status and one.is_as_before() and text_of(evening.record) == rows
 
 
-def test_its_terminal_is_gone(hall: Hall) -> None:
+def test_its_terminal_is_gone(evening: Evening) -> None:
     """It ends, and what was on its way is in the record, whole."""
-    gone = hall()
-    one = gone.reporter().sees("12 Delta").type("1 goal home\r1 goal aw").sees("1 goal aw")
+    one = evening.reporter().sees("12 Delta").type("1 goal home\r1 goal aw").sees("1 goal aw")
     for file in one.master, one.slave:
         os.close(file)
     one.master, one.slave = (os.open(os.devnull, os.O_RDONLY) for _ in range(2))
-    assert one.process.wait(20) and gone.rows()[8:] in ([], ["1,1,3,goal-home\n"])
+    assert one.process.wait(20) and evening.rows()[8:] in ([], ["1,1,3,goal-home\n"])
 
 
 @pytest.mark.parametrize(
@@ -331,21 +323,22 @@ def test_its_terminal_is_gone(hall: Hall) -> None:
         (signal.SIGTSTP, "1 red home\r", "1 red home .. >", "entered, row 9"),
     ],
 )
-def test_it_is_suspended(hall: Hall, sent: str | int, typed: str, seen: str, told: str) -> None:
+def test_it_is_suspended(
+    evening: Evening, sent: str | int, typed: str, seen: str, told: str
+) -> None:
     """An append that waits for the lock ends first, and nothing is held then: the terminal is as it
     was. Once it goes on it shows what came since; a line stands there, and a question is asked."""
-    held = hall()
-    one = held.terminal(shell="bash --norc --noprofile -i")
+    one = evening.terminal(shell="bash --norc --noprofile -i")
     one.type("stty -a >before; echo re''ady\r").sees("ready")
     one.type("./ucl_reporter evening.csv; stty -a >stopped; echo stop''ped\r").sees("12 Delta")
-    with open(held.record) as file:
+    with open(evening.record) as file:
         fcntl.flock(file, fcntl.LOCK_EX)
         send(one.type(typed).sees(seen), sent)
         time.sleep(0.5)
     one.sees(told).sees("stopped\n")
-    with open(held.record) as file:
+    with open(evening.record) as file:
         fcntl.flock(file, fcntl.LOCK_EX | fcntl.LOCK_NB)
-        append_to(held.record, "2,2,0,kickoff\n")
+        append_to(evening.record, "2,2,0,kickoff\n")
     one.type("fg; stty -a >after; echo ov''er\r").sees(": 2 kickoff by reporter 2")
     if "mend" in typed:
         one.enter("y", "entered, row 10")
@@ -355,33 +348,36 @@ def test_it_is_suspended(hall: Hall, sent: str | int, typed: str, seen: str, tol
     while one.read(1):
         pass
     one.type(END).sees("over\n")
-    modes = {text_of(held.path / name) for name in ("before", "stopped", "after")}
-    assert len(modes) == 1 and len(held.rows()) == 10
+    modes = {text_of(evening.path / name) for name in ("before", "stopped", "after")}
+    assert len(modes) == 1 and len(evening.rows()) == 10
 
 
 # ---- a full board, and kills
 
 
-def test_a_full_board(hall: Hall, live: str) -> None:
+EVENTS = ["kickoff", *["goal-home", "disallow-home"] * 2046, "goal-home", "fulltime"]
+ROWS = [f"1,{match},{at},{it}\n" for at, it in enumerate(EVENTS) for match in range(1, 13)]
+
+
+@pytest.mark.parametrize("record", [BEGUN + "".join(ROWS)], ids=["full"])
+def test_a_full_board(evening: Evening, live: str) -> None:
     """49,140 events: a start takes less than a second of a processor, and a mend goes in."""
     if "stand_in" in live:
         pytest.skip("a stand-in takes too long")
-    events = ["kickoff", *["goal-home", "disallow-home"] * 2046, "goal-home", "fulltime"]
-    rows = [f"1,{match},{at},{it}\n" for at, it in enumerate(events) for match in range(1, 13)]
-    full, taken = hall(BEGUN + "".join(rows)), list[float]()
+    taken = list[float]()
     for _ in range(3):
-        assert full.watched().startswith("GROUP B v49140 IN PLAY 0\n")
-        taken.append(full.seconds)
+        assert evening.watched().startswith("GROUP B v49140 IN PLAY 0\n")
+        taken.append(evening.seconds)
     assert min(taken) < 1, taken
-    ran = full.run("--mend", "7", "--yes")
+    ran = evening.run("--mend", "7", "--yes")
     assert ran.output.endswith("GROUP B v45045 IN PLAY 0 EDITION 1\n"), ran
-    assert full.rows()[-1] == "mend,7,,\n"
+    assert evening.rows()[-1] == "mend,7,,\n"
 
 
-def killed_once(hall: Evening, chance: random.Random, rows: list[str], start: float) -> Run:
+def killed_once(evening: Evening, chance: random.Random, rows: list[str], start: float) -> Run:
     """Gives rows to the program, and kills it, or its `ucl_live` first, in about the time that a
     start takes."""
-    with Started(["./ucl_reporter", "evening.csv"], cwd=hall.path, env=hall.env) as started:
+    with Started(["./ucl_reporter", "evening.csv"], cwd=evening.path, env=evening.env) as started:
         started.write("".join(rows))
         time.sleep(chance.uniform(0.3, 1.5) * start)
         for process in children_of(started.pid) if chance.random() < 0.5 else []:
@@ -393,26 +389,27 @@ def killed_once(hall: Evening, chance: random.Random, rows: list[str], start: fl
         return Run(started.wait(), output, errors)
 
 
+@pytest.mark.parametrize("record", [BEGUN])
 @pytest.mark.parametrize("part", range(4))
-def test_kills(hall: Hall, part: int, seed: int, kills: int) -> None:
+def test_kills(evening: Evening, part: int, seed: int, kills: int) -> None:
     """A hundred kills in all, of four records: no answered row is lost, none is entered twice, and
     after each start the table is that of the record."""
-    killed, chance, answered = hall(BEGUN), random.Random(f"{seed} {part}"), dict[int, str]()
+    chance, answered = random.Random(f"{seed} {part}"), dict[int, str]()
     print(f"--seed {seed}")
     rows = [re.sub("^2", "1", row) for row in random_rows(chance, 4000)]
     begun = time.monotonic()
-    assert killed.run(input=rows[0]).status == 0
+    assert evening.run(input=rows[0]).status == 0
     start = time.monotonic() - begun
     for number in range(1, kills // 4 + 1):
-        count = len([it for it in killed.evening()[1] if " ok " in it])
-        ran = killed_once(killed, chance, rows[max(0, count - 5) : count + 60], start)
+        count = len([it for it in evening.played()[1] if " ok " in it])
+        ran = killed_once(evening, chance, rows[max(0, count - 5) : count + 60], start)
         assert ran.errors == "" and "refused" not in ran.output, ran
         told = re.findall(r"^(\S+) +entered, row (\d+):", ran.output, re.M)
         answered.update({int(row): f"{text}\n" for text, row in told})
-        assert number % 25 or killed.watched() == killed.table()
-    lines = killed.rows()
-    accepted = {int(it.split()[0]) for it in killed.evening()[1] if " ok " in it}
+        assert number % 25 or evening.watched() == evening.table()
+    lines = evening.rows()
+    accepted = {int(it.split()[0]) for it in evening.played()[1] if " ok " in it}
     assert {*answered} <= accepted and all(lines[row - 1] == answered[row] for row in answered)
-    assert killed.watched() == killed.table()
+    assert evening.watched() == evening.table()
     print(f"{kills // 4} kills, {len(answered)} rows answered")
     assert len(answered) > kills // 8
