@@ -179,26 +179,23 @@ async def test_what_a_terminal_tells(board: Board, desk: Desk, name: str) -> Non
     assert isinstance(outcome, list) or desk.pending.look().waiting == ()
 
 
+REDS = "".join(f"1,1,{number},red-away\n" for number in range(3, 35))
+AWAY = "the away side of match 1"
+# By the name of a refusal the rows of which the last is refused so, and what is told at a terminal.
 REFUSALS = {
     "not-started": ("1,2,0,goal-home\n", "match 2 has not kicked off; type 2 kickoff first"),
     "already-started": ("1,1,3,kickoff\n", "match 1 has kicked off already"),
     "not-finished": ("1,1,3,reopen\n", "match 1 is not over"),
-    "no-goal": (
-        "1,2,0,kickoff\n1,2,1,disallow-home\n",
-        "the home side of match 2 has no goal",
-    ),
+    "no-goal": ("1,2,0,kickoff\n1,2,1,disallow-home\n", "the home side of match 2 has no goal"),
     "no-caution": (
         "1,1,3,second-yellow-away\n",
-        "the away side of match 1 has no yellow; type 1 yellow away before it",
+        f"{AWAY} has no yellow; type 1 yellow away before",
     ),
     "finished": (
         "1,1,3,fulltime\n1,1,4,red-away\n",
-        "match 1 is over; if it goes on, type 1 reopen first",
+        "match 1 is over; if it goes on, type 1 reopen",
     ),
-    "limit-reached": (
-        "".join(f"1,1,{number},red-home\n" for number in range(3, 35)),
-        "the home side of match 1 has as many as a board counts",
-    ),
+    "limit-reached": (REDS, f"{AWAY} has as many as a board counts"),
 }
 
 
@@ -255,9 +252,7 @@ async def test_the_last_events_have_the_numbers_that_they_gave_their_match(board
 @pytest.mark.parametrize(
     "line, told",
     [
-        ("4 kickoff", "match 4 is not yours"),
-        ("4", "match 4 is not yours"),
-        ("1,4,0,kickoff", "match 4 is not yours"),
+        *((it, "match 4 is not yours") for it in ("4 kickoff", "4", "1,4,0,kickoff")),
         ("7,1,3,goal-home", "no event of reporter 1; --help has them all"),
         ("1 gaol home", "this is no event and no command; 1 goal home?"),
         (
@@ -312,12 +307,14 @@ async def test_a_line_goes_with_what_was_seen(board: Board, desk: Desk) -> None:
 
 
 async def test_what_others_enter_is_told(board: Board, desk: Desk) -> None:
-    """With its row, and its match as it stands; what is one's own is not."""
-    answers = [answer_of(line) for line in lines_to(STARTED + "2,1,3,goal-home\n")][-2:]
-    board.tell(reply_of(answers))
-    told = "row 9: 1 goal home by reporter 2: Bravo 2-1 Charlie, in play, event 4 by 2"
-    assert desk.lines == [told]
+    """With its row, and its match as it stands; what is one's own is not, nor what is refused."""
+    answers = [answer_of(line) for line in lines_to(GOAL + "2,1,4,goal-home\n")]
+    desk.pending.add(Sent("1 goal home", [Row(1, 3, "goal-home")]))
+    board.tell(reply_of(answers[-4:-2]))
+    assert desk.lines == []
+    board.tell(reply_of(answers[-2:]))
     board.tell(Reply(refusal("1,1,2,goal-home\n")))
+    told = "row 10: 1 goal home by reporter 2: Bravo 3-1 Charlie, in play, event 5 by 2"
     assert desk.lines == [told]
 
 

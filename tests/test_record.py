@@ -53,14 +53,9 @@ Do = Callable[[Callable[[], object]], None]
 
 
 @pytest.fixture
-def kind() -> str:
-    """The file system of a record: the one of all tests."""
-    return ""
-
-
-@pytest.fixture
-def folder(tmp_path: pathlib.Path, kind: str) -> Iterator[pathlib.Path]:
-    """The folder of a record; of another kind of file system one that has little room."""
+def folder(tmp_path: pathlib.Path, request: pytest.FixtureRequest) -> Iterator[pathlib.Path]:
+    """The folder of a record; or on a file system of its own, of the kind that is asked for."""
+    kind = getattr(request, "param", "")
     if not kind:
         yield tmp_path
         return
@@ -235,7 +230,8 @@ async def test_a_record_is_read_and_appended_to(record: Record, path: str, live:
 
 @pytest.mark.parametrize("is_durable", [True])
 async def test_what_waits_is_appended_together(record: Record, before_sync: Do) -> None:
-    """Forty who send while the disk is slow wait for three syncs, and each has its own answer."""
+    """Forty who send while the disk is slow wait for three syncs, and each has its own answer; a
+    result of more events than one append takes goes in whole."""
     syncs = list[float]()
 
     def slow() -> None:
@@ -245,18 +241,13 @@ async def test_what_waits_is_appended_together(record: Record, before_sync: Do) 
     await record.ready()
     before_sync(slow)
     rows = [Row(1, number, "yellow-home") for number in range(3, 43)]
-    outcomes = await asyncio.gather(*(entered(record, row, reporter=2) for row in rows))
-    assert [it.match.number for it in outcomes if isinstance(it, Entered)] == [*range(4, 44)]
-    assert len(syncs) <= 3
-
-
-async def test_more_than_one_append_takes(record: Record) -> None:
-    """A result of a hundred events goes in whole, and what waits with it too."""
     result = [Row(3, number, "goal-home" if number else "kickoff") for number in range(60)]
-    outcomes, after = await asyncio.gather(
-        record.enter(sent(*result)), entered(record, goal(record), reporter=2)
+    *outcomes, whole = await asyncio.gather(
+        *(record.enter(sent(row, reporter=2)) for row in rows), record.enter(sent(*result))
     )
-    assert len(outcomes) == 60 and after.row == 69
+    numbers = [it.match.number for (it,) in outcomes if isinstance(it, Entered)]
+    assert numbers == [*range(4, 44)] and len(syncs) <= 4
+    assert [it.row for it in whole if isinstance(it, Entered)] == [*range(49, 109)]
 
 
 async def test_one_id_is_entered_once(record: Record, path: str) -> None:
@@ -573,7 +564,7 @@ def room(count: int) -> str:
 
 
 @pytest.mark.parametrize(
-    "kind, text, left, told",
+    "folder, text, left, told",
     [
         ("tmpfs", room(4), "", "the disk is full: nothing was entered"),
         # Which reserves nothing, so a part of a row may be in.
@@ -586,6 +577,7 @@ def room(count: int) -> str:
         ),
     ],
     ids=["reserved", "no room", "cut off"],
+    indirect=["folder"],
 )
 async def test_a_full_disk(
     record: Record, path: str, folder: pathlib.Path, text: str, left: str, told: str
@@ -706,9 +698,12 @@ async def many_times(board: Record, sending: Events, chance: random.Random) -> s
 
 @pytest.mark.parametrize("seed", range(3))
 @pytest.mark.parametrize("text", [BEGUN], ids=["begun"])
-async def test_random_evenings_of_one_file(record: Record, path: str, live: str, seed: int) -> None:
+async def test_random_evenings_of_one_file(
+    record: Record, path: str, live: str, monkeypatch: MonkeyPatch, seed: int
+) -> None:
     """Six reporters at three boards, who send again what has no answer, while children are killed
     and somebody writes beside: what is sent is in once, whole, at the row that is told."""
+    monkeypatch.setattr("ucl_hall.record.file.LOCK", 60)
     told: dict[str, set[int]] = {}
     events = ["kickoff", *["goal-home", "disallow-home"] * 40]
 
@@ -757,7 +752,7 @@ async def test_rows_that_begin_no_record(path: str, live: str) -> None:
     assert os.listdir(os.path.dirname(path)) == []
 
 
-@pytest.mark.parametrize("kind", ["vfat"])
+@pytest.mark.parametrize("folder", ["vfat"], indirect=True)
 async def test_a_record_begins_on_fat(folder: pathlib.Path, path: str, live: str) -> None:
     """Where there are no links."""
     assert await begin(path, live, BEGUN.encode())

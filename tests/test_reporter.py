@@ -192,7 +192,7 @@ def test_the_lines_of_a_pipe(evening: Evening) -> None:
     the board has is passed over."""
     with Started(["./ucl_reporter", "evening.csv"], cwd=evening.path, env=evening.env) as ran:
         ran.write("1,1,0,kickoff\n\n  1,1,3,red-home \n2 goal home\n\x1b[2J\n2 kick")
-        assert ran.wait() == 1
+        assert ran.wait(60) == 1
         told = ran.end()
     assert told.output.splitlines() == [
         "1,1,0,kickoff           passed over: the board has it",
