@@ -6,6 +6,7 @@ import asyncio
 import contextlib
 import errno
 import json
+import os
 import sys
 from collections.abc import AsyncIterator
 from types import SimpleNamespace
@@ -304,6 +305,27 @@ async def test_a_line_goes_with_what_was_seen(board: Board, desk: Desk) -> None:
     (sent,) = board.sent
     assert isinstance(sent, Events)
     assert (*sent.rows,) == (Row(1, 5, "goal-home"),) and sent.edition == 0
+
+
+async def test_what_waits_is_taken_before_a_newer_moment_is_drawn(
+    board: Board, monkeypatch: MonkeyPatch
+) -> None:
+    """Keys that wait were typed at what stands there; who only looks types nothing."""
+    pytest.importorskip("prompt_toolkit", reason="not installed: python3-prompt-toolkit")
+    from ucl_hall.terminal.screen import Screen
+
+    master, slave = os.openpty()
+    with open(slave) as stdin, open(master, "wb", buffering=0) as keys:
+        monkeypatch.setattr(sys, "stdin", stdin)
+        screen, watch = [Screen(board, 1, [1], is_watching=it) for it in (False, True)]
+        keys.write(b"1 goal home\n")
+        board.moment = moment_of(GOAL)
+        for it in screen, watch:
+            it._before_render(None)
+        assert (screen._drawing.version, watch._drawing.version) == (3, 4)
+        stdin.readline()
+        screen._before_render(None)
+        assert screen._drawing.version == 4
 
 
 async def test_what_others_enter_is_told(board: Board, desk: Desk) -> None:

@@ -103,20 +103,6 @@ def test_a_line_goes_with_what_was_seen_at_its_first_letter(evening: Evening) ->
         one.sees("1 goal away             entered, row 16" if EMPTIED in rest else stale)
 
 
-def test_what_waits_is_taken_before_a_newer_moment_is_drawn(evening: Evening) -> None:
-    """A line is typed while the program is stopped, and an event comes before it goes on: it was
-    typed at the moment that stood there."""
-    one = evening.reporter().sees("12 Delta")
-    for number in range(3, 11):
-        one.board()
-        one.process.send_signal(signal.SIGSTOP)
-        append_to(evening.record, f"2,1,{number},goal-home\n")
-        one.type("1 goal home\r")
-        time.sleep(0.3)
-        one.process.send_signal(signal.SIGCONT)
-        one.sees(f"has event number {number + 1} by now, and you had seen {number}")
-
-
 @pytest.mark.parametrize("record", [BEGUN])
 def test_lines_that_are_pasted(evening: Evening) -> None:
     """Each is a line of its own, as seen at the paste, with the own rows that wait; the last has no
