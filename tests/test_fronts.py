@@ -524,6 +524,12 @@ def test_command_lines_that_are_refused(capsys: pytest.CaptureFixture[str], line
     assert capsys.readouterr().err.startswith("usage: ucl_reporter RECORD [--number N]")
 
 
+def test_help(capsys: pytest.CaptureFixture[str]) -> None:
+    with pytest.raises(SystemExit, match="0"):
+        command.options_of(["--help"])
+    assert "Enters the events of a group at a terminal" in capsys.readouterr().out
+
+
 async def test_a_record_that_another_has_begun_meanwhile(
     monkeypatch: MonkeyPatch, capsys: pytest.CaptureFixture[str]
 ) -> None:

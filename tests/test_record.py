@@ -333,14 +333,16 @@ async def test_a_mend_is_asked_about_and_appended(record: Record, path: str) -> 
     assert [it.row for it in (await record.trial(LeaveOut(13))).left_out] == [14]
 
 
+BOTH = Club("Real Madrid", 61_000)
+
+
 @pytest.mark.parametrize(
     "came, change, age, club",
     [
         ("mend,,10,", NewEdition(), (20, 3), Club("Bravo", 95_000)),
-        *(
-            (row, ClubChange(2, coefficient=61_000), (2, 3), Club("Real Madrid", 61_000))
-            for row in ('club,2,Real Madrid,"95000"', 'club,2,Real Madrid,"95000"\n')
-        ),
+        ('club,2,Real Madrid,"95000"', ClubChange(2, coefficient=61_000), (2, 3), BOTH),
+        ('club,2,Real Madrid,"95000"\n', ClubChange(2, coefficient=61_000), (2, 3), BOTH),
+        ('club,2,Bravo,"61000"\n', ClubChange(2, name="Real Madrid"), (2, 3), BOTH),
     ],
 )
 async def test_a_mend_behind_another(
@@ -356,7 +358,7 @@ async def test_a_mend_behind_another(
     assert record.moment.age == age and record.moment.title.clubs[1] == club
 
 
-@pytest.mark.parametrize("text", [STARTED.replace("uefa,0", "uefa,65530")])
+@pytest.mark.parametrize("text", [STARTED.replace("uefa,0", "uefa,65530")], ids=["late"])
 async def test_the_last_edition(record: Record) -> None:
     await record.enter(Mend(await record.trial(NewEdition())))
     assert record.moment.edition == 65_535

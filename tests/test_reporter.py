@@ -65,7 +65,9 @@ def test_the_first_evening(evening: Evening) -> None:
     assert board.startswith(evening.table()) and " 2 Delta v Alpha, to come\n" in board
     assert board.endswith("\n>") and one.end() == 0 and one.is_as_before()
     again = evening.reporter("--number", "7", "--matches", "1,2")
-    again.enter("1 second yellow home", "has no yellow").enter("1 yellow home", "entered, row 9")
+    again.enter("1 second yellow home", "has no yellow").enter(
+        "1 yellow home", "event 3 by 7, Y 1-0"
+    )
     again.enter("3 kickoff", "match 3 is not yours")
     assert again.board().count("\n") == 8 and again.board().startswith(evening.table())
 
@@ -103,7 +105,7 @@ def test_a_line_goes_with_what_was_seen_at_its_first_letter(evening: Evening) ->
         one.sees("1 goal away             entered, row 16" if EMPTIED in rest else stale)
 
 
-@pytest.mark.parametrize("record", [BEGUN])
+@pytest.mark.parametrize("record", [BEGUN], ids=["begun"])
 def test_lines_that_are_pasted(evening: Evening) -> None:
     """Each is a line of its own, as seen at the paste, with the own rows that wait; the last has no
     end and stays; without marks of a paste too."""
@@ -172,20 +174,22 @@ def test_watch_waits_for_its_record(evening: Evening) -> None:
 # ---- without a terminal
 
 
+@pytest.mark.parametrize("record", [STARTED + "mend,,10,\n"], ids=["mended"])
 @pytest.mark.quick
 def test_the_lines_of_a_pipe(evening: Evening) -> None:
     """The first that is refused ends the run, while more may come, and is told in one line; what
     the board has is passed over."""
-    with Started(["./ucl_reporter", "evening.csv"], cwd=evening.path, env=evening.env) as ran:
+    line = ["./ucl_reporter", "evening.csv", "--edition", "10"]
+    with Started(line, cwd=evening.path, env=evening.env) as ran:
         ran.write("1,1,0,kickoff\n\n  1,1,3,red-home \n2 goal home\n\x1b[2J\n2 kick")
         assert ran.wait(60) == 1
         told = ran.end()
     assert told.output.splitlines() == [
         "1,1,0,kickoff           passed over: the board has it",
-        "1,1,3,red-home          entered, row 9: Bravo 1-1 Charlie, in play, event 4 by 1, E 1-0",
+        "1,1,3,red-home          entered, row 10: Bravo 1-1 Charlie, in play, event 4 by 1, E 1-0",
     ]
     assert told.errors.startswith("ucl_reporter: 2 goal home: refused: match 2 has not kicked off")
-    assert told.errors.count("\n") == 1 and evening.rows()[9:] == ["1,2,0,goal-home\n"]
+    assert told.errors.count("\n") == 1 and evening.rows()[10:] == ["1,2,0,goal-home\n"]
 
 
 @pytest.mark.parametrize(
@@ -375,7 +379,7 @@ def killed_once(evening: Evening, chance: random.Random, rows: list[str], start:
         return Run(started.wait(), output, errors)
 
 
-@pytest.mark.parametrize("record", [BEGUN])
+@pytest.mark.parametrize("record", [BEGUN], ids=["begun"])
 @pytest.mark.parametrize("part", range(4))
 def test_kills(evening: Evening, part: int, seed: int, kills: int) -> None:
     """A hundred kills in all, of four records: no answered row is lost, none is entered twice, and
