@@ -22,6 +22,8 @@ from drivers.case import Case as Case
 from drivers.case import Has as Has
 from drivers.case import Unproved, differs
 from drivers.case import tabled as tabled
+from drivers.loop import loop as loop
+from drivers.loop import pytest_pyfunc_call as pytest_pyfunc_call
 from drivers.port import free_port as free_port
 from drivers.port import is_reached as is_reached
 from drivers.program import Run, Started, built, command

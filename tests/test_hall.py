@@ -4,6 +4,7 @@ stand."""
 import contextlib
 import json
 import random
+import re
 from typing import Any
 
 import hypothesis
@@ -72,19 +73,7 @@ def test_each_answer_is_read() -> None:
 
 
 ODD: list[object] = [
-    None,
-    True,
-    -1,
-    1 << 70,
-    1.5,
-    "",
-    "x\x1b[2J",
-    [],
-    {},
-    [[]],
-    "IN PLAY",
-    4096,
-    "\ud800",
+    *(None, True, -1, 1 << 70, 1.5, "", "x\x1b[2J", [], {}, [[]], "IN PLAY", 4096, "\ud800"),
 ]
 
 
@@ -134,33 +123,25 @@ def test_lines_that_are_none(line: bytes) -> None:
         answer_of(line)
 
 
-def test_values_that_are_nearly_right() -> None:
-    """true is no number, a name of a refusal is one word, and a number is in its range."""
-    said = {"reply": "refused", "row": 9, "code": 11, "name": "no-event"}
-    assert isinstance(answer_of(json.dumps(said).encode()), Refused)
-    for name, wrong in [
-        *(("row", True), ("row", 0), ("row", 1 << 32), ("row", "9"), ("code", True)),
-        *(("name", "no\x1b[2J"), ("name", "x" * 41), ("name", "")),
-    ]:
-        with pytest.raises(NoAnswer):
-            answer_of(json.dumps({**said, name: wrong}).encode())
-
-
 @pytest.mark.parametrize(
-    "name, value",
+    "reply, name, wrong",
     [
-        *(("matches", []), ("table", []), ("clubs", []), ("words", 7), ("row", 1 << 70)),
-        *(("version", -1), ("group", "Z"), ("edition", "0")),
-        ("clubs", [{"club": "\x1b[2J", "coefficient": 1}] * 4),
+        *(("refused", "row", it) for it in (True, 0, 1 << 32, "9")),
+        *(("refused", "name", it) for it in ("no\x1b[2J", "x" * 41, "")),
+        *(("refused", "code", True), ("screen", "matches", []), ("screen", "table", [])),
+        *(("screen", "clubs", []), ("screen", "words", 7), ("screen", "row", 1 << 70)),
+        *(("screen", "version", -1), ("screen", "group", "Z"), ("screen", "edition", "0")),
+        ("screen", "clubs", [{"club": "\x1b[2J", "coefficient": 1}] * 4),
     ],
     ids=str_of,
 )
-def test_a_screen_that_is_well_formed_and_wrong(name: str, value: object) -> None:
-    """It is no answer, so no list of it is ever too short, and no escape of it is printed."""
-    screen = json.loads([line for line in answers_to(STARTED) if b'"screen"' in line][-1])
-    assert isinstance(answer_of(json.dumps(screen).encode()), Moment)
+def test_values_that_are_nearly_right(reply: str, name: str, wrong: object) -> None:
+    """true is no number, the name of a refusal is one word, a number is in its range, and no list is
+    ever too short, so no escape is printed."""
+    said = [it for it in map(json.loads, answers_to(EVENING)) if it["reply"] == reply][-1]
+    assert isinstance(answer_of(json.dumps(said).encode()), Refused | Moment)
     with pytest.raises(NoAnswer):
-        answer_of(json.dumps({**screen, name: value}).encode())
+        answer_of(json.dumps({**said, name: wrong}).encode())
 
 
 def test_a_refusal_of_a_rule_that_is_not_known_yet() -> None:
@@ -205,19 +186,32 @@ def test_lines_that_are_typed(text: str, wanted: Typed | None) -> None:
     assert typed(text) == wanted
 
 
+# What is told of lines that say nothing.
+NO_LINES = {
+    "there is no such match: they are 1 to 12": ["0", "13 goal home", "1" * 5_000 + " kickoff"],
+    "; help shows them all": ["1 corner flag", "goal home", "²", "٣ kickoff", "\x1b[A"],
+    "this is no row of an event; help": ["1,1,2,goal", "256,1,2,kickoff", "1,1,65536,kickoff"],
+    "row of an event; help shows": ["1,1,2,kickoff x", "1,13,2,kickoff", "1,1,²,kickoff"],
+    "; 1 goal home or 1 goal away?": ["1 goal", "1 goal hoem"],
+    **{"; 1 goal home?": ["1 gaol home"], "; 3 disallow away?": ["3 disallow away 3 goal home"]},
+    **{"; 7 disallow home or 7 disallow away?": ["7 disallow"], "; 1 kickoff?": ["1 kick off"]},
+    **{"; 2 result?": ["2 resutl 1-0"], "; mend?": ["mned 17"], "; club?": ["clbu 2 X"]},
+    "no event and no command": ["1 goal home away"],
+    "a result is 1 result 2-1": ["5 result 2-x", "5 result 64-0", "5 result 1-0 reds 0-32"],
+    "type mend 17 with the row of an event, or mend alone": ["mend 0", "mend 17 18", "mend -1"],
+    "row of an event, or mend alone": ["mend edition 3"],
+    "type club 2 Real Madrid": ["club 5 X", "club 2", "coefficient 0 1"],
+    "without accents": ["club 2 Málaga"],
+    "at most 999999": [f"coefficient 1 {it}" for it in ("1000000", ".5", "1.5")],
+}
+
+
 @pytest.mark.parametrize(
-    "text",
-    [
-        *("0", "13 goal home", "1" * 5_000 + " kickoff", "²", "٣ kickoff", "1 goal", "\x1b[A"),
-        *("1 goal home away", "1 gaol home", "mend 0", "mend 17 18", "mend edition 3", "mend -1"),
-        *("club 5 X", "club 2", "club 2 Málaga", "coefficient 1 1000000", "coefficient 1 .5"),
-        *("coefficient 1 1.5", "1,1,2,goal", "256,1,2,kickoff", "1,1,65536,kickoff"),
-        *("1,1,2,kickoff x", "5 result 64-0", "5 result 1-0 reds 0-32"),
-    ],
-    ids=str_of,
+    "text, told", [(it, told) for told, lines in NO_LINES.items() for it in lines], ids=str_of
 )
-def test_lines_that_say_nothing(text: str) -> None:
-    with pytest.raises(NotEntered):
+def test_lines_that_say_nothing(text: str, told: str) -> None:
+    """What was meant perhaps, or how it is typed, is told."""
+    with pytest.raises(NotEntered, match=re.escape(told)):
         typed(text)
 
 

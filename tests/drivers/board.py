@@ -2,6 +2,7 @@
 
 import asyncio
 from collections.abc import Callable, Sequence
+from typing import TypeVar
 
 import model
 
@@ -11,16 +12,20 @@ from ucl_hall.engine.json_lines import answer_of
 from ucl_hall.engine.trial import Change, Trial
 from ucl_hall.record.sending import Outcome, Sending
 
+Given = TypeVar("Given")
+
 
 class Board:
     """A board without a record. It answers what is sent by what was put into `answers`: what came
-    of it, or a fault; and a change by the next of `trials`."""
+    of it, or a fault; and a change by the next of `trials`. Of its events those in `stand` stand.
+    """
 
     def __init__(self, moment: Moment) -> None:
         self.moment = moment
         self.over: asyncio.Future[None] = asyncio.get_running_loop().create_future()
         self.answers: list[Sequence[Outcome] | Exception] = []
-        self.trials: list[Trial] = []
+        self.trials: list[Trial | Exception] = []
+        self.stand: list[Event] = []
         self.sent: list[Sending] = []
         self._listeners: list[Callable[[Reply], None]] = []
 
@@ -35,8 +40,8 @@ class Board:
             listener(reply)
 
     def events(self, match: int) -> Sequence[Event]:
-        """None is known."""
-        return []
+        """Those of a match."""
+        return [it for it in self.stand if it.match == match]
 
     async def ready(self) -> None:
         """It is."""
@@ -44,17 +49,21 @@ class Board:
     async def enter(self, sending: Sending) -> Sequence[Outcome]:
         """Answers as it was told to."""
         self.sent.append(sending)
-        answer = self.answers.pop(0)
-        if isinstance(answer, Exception):
-            raise answer
-        return answer
+        return given(self.answers.pop(0))
 
     async def trial(self, change: Change) -> Trial:
         """Answers as it was told to."""
-        return self.trials.pop(0)
+        return given(self.trials.pop(0))
 
     async def close(self) -> None:
         """Ends nothing."""
+
+
+def given(answer: Given | Exception) -> Given:
+    """What a board answers, or its fault, which is raised."""
+    if isinstance(answer, Exception):
+        raise answer
+    return answer
 
 
 def lines_to(rows: str) -> list[bytes]:

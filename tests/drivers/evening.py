@@ -47,13 +47,17 @@ class Evening:
         """The rows of the record."""
         return re.findall(r"[^\n]*\n|[^\n]+$", text_of(self.record))
 
-    def evening(self) -> tuple[Any, list[str]]:
+    def played(self) -> tuple[Any, list[str]]:
         """The board of the record by the rules, and the answers to its rows."""
-        return evening_of(text_of(self.record))
+        board, lines = model.Session([]), text_of(self.record).split("\n")[:-1]
+        return board, [it for row, line in enumerate(lines, 1) for it in board.answers(row, line)]
 
     def table(self) -> str:
         """The table of the record by the rules, as it is shown."""
-        return shown(self.evening()[0])
+        board, _ = self.played()
+        screen = board.style.screen(board.matches or model.fresh(), board.roster)
+        edition = f" EDITION {board.style.edition}" * bool(board.style.edition)
+        return re.sub(" *\n", f"{edition}\n", screen, count=1)
 
     def watched(self) -> str:
         """The table that is shown first, to who only looks; `seconds` is what a processor took
@@ -69,18 +73,3 @@ class Evening:
         """Ends all its terminals at once."""
         for terminal in self.terminals:
             terminal.kill()
-
-
-def evening_of(text: str) -> tuple[Any, list[str]]:
-    """The board of a record by the rules, and the answers to its rows."""
-    evening, lines = model.Session([]), text.split("\n")[:-1]
-    numbered = enumerate(lines, 1)
-    return evening, [it for row, line in numbered for it in evening.answers(row, line)]
-
-
-def shown(evening: Any) -> str:
-    """The table of a board, as it is shown."""
-    matches = evening.matches or model.fresh()
-    title, *rest = evening.style.screen(matches, evening.roster).splitlines(True)
-    edition = f" EDITION {evening.style.edition}" * bool(evening.style.edition)
-    return "".join([title.rstrip() + edition + "\n", *rest])

@@ -98,6 +98,7 @@ class Terminal:
             self.read(0.1)
         while self.read(0.1):
             pass
+        assert "Traceback" not in self.text()
         return self.process.wait(1)
 
     def end(self, keys: str = "\x04") -> int:

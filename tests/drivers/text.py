@@ -23,6 +23,12 @@ def text_of(path: str | os.PathLike[str]) -> str:
     return decoded(pathlib.Path(path).read_bytes())
 
 
+def append_to(path: str | os.PathLike[str], text: str) -> None:
+    """Writes behind what a file has, as who takes no lock does."""
+    with open(path, "ab") as file:
+        file.write(encoded(text))
+
+
 def lines_to_type(page: str | os.PathLike[str]) -> dict[str, str]:
     """The lines that a page has one type, by what stands in bold above each."""
     return dict(re.findall(r"^\*\*(.+?)\*\*(?:.+\n)+\n((?:    .+\n)+)", text_of(page), re.M))
