@@ -85,10 +85,11 @@ class Nodes:
         """Writes a key."""
         assert self.call("kv/put", {"key": text64(key), "value": b64encode(value).decode()})
 
-    def delete(self, key: str, end: str = "") -> None:
-        """Removes a key, or those of a range."""
-        more = {"range_end": text64(end)} if end else {}
-        assert self.call("kv/deleterange", {"key": text64(key), **more})
+    def delete(self, prefix: str) -> None:
+        """Removes the keys of a prefix."""
+        end = f"{prefix[:-1]}{chr(ord(prefix[-1]) + 1)}"
+        body: dict[str, object] = {"key": text64(prefix), "range_end": text64(end)}
+        assert self.call("kv/deleterange", body)
 
     def end(self) -> None:
         """Ends all nodes."""
