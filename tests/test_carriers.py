@@ -115,7 +115,7 @@ def test_many_who_append_at_once(where: str, live: str) -> None:
 # ---- how it begins
 
 
-def test_of_several_who_begin_one_does(where: str, live: str) -> None:
+def test_of_several_who_begin_one_does(where: str, live: str, tmp_path: pathlib.Path) -> None:
     """Whole, however long it is; the others are told so, and nothing of theirs stays. Rows that are
     no record begin none."""
     rows = "".join(f"1,1,{at},{'yellow-home' if at else 'kickoff'}\n" for at in range(400))
@@ -124,11 +124,12 @@ def test_of_several_who_begin_one_does(where: str, live: str) -> None:
     async def work() -> None:
         with pytest.raises(Over, match="input refused 21: slot 1"):
             await begin(where, live, BEGUN.replace("Alpha", "").encode())
-        assert not await asyncio.to_thread(places.exists, where)
+        assert not await asyncio.to_thread(places.exists, where) and not [*tmp_path.iterdir()]
         made = await asyncio.gather(*(begin(where, live, text.encode()) for text in texts))
         assert sorted(made) == [False, False, True]
         assert not await begin(where, live, BEGUN.encode())
         assert await text_of(where) == texts[made.index(True)]
+        assert [*map(str, tmp_path.iterdir())] == [where] * os.path.exists(where)
 
     asyncio.run(work())
 
