@@ -104,54 +104,24 @@ def kill(record: Record) -> None:
 # ---- the log
 
 
-def test_rows_go_in_behind_what_was_read(tmp_path: pathlib.Path) -> None:
-    """Who was second is told what came, and then goes in under the lock that is kept meanwhile."""
+def test_the_lock_is_kept_behind_rows_of_others(tmp_path: pathlib.Path) -> None:
+    """From when they were told until the next call, or the end."""
 
     async def work() -> None:
         (tmp_path / "evening.csv").touch()
         first, second = [await FileLog.open(path_of(tmp_path)) for _ in range(2)]
-        assert await first.read() == await first.append([]) == []
-        rows = [Entry(b"1,1,0,kickoff\n", (1, "a")), Entry(b"\xff\0 x,\r\n", (1, "b"))]
-        late = [Entry(b"late\n", (2, "c"))]
-        assert await first.append(rows) == rows
-        assert await second.append(late) == [Entry(it.row) for it in rows]
+        row = [Entry(b"1,1,0,kickoff\n")]
+        assert await first.append(row) == row == await second.append(row)
         with pytest.raises(Held):
-            await first.append(rows)
-        assert await second.append(late) == late and await second.append([]) == []
-        assert await first.read() == [Entry(b"late\n")] and await first.read() == []
-        assert await first.append(rows[:1]) == rows[:1] and len(await second.append(late)) == 1
+            await first.append(row)
+        assert await second.append(row) == row == await first.read()
+        assert await first.append(row) == row == await second.append(row)
         await second.close()
-        assert await first.append(late) == late
+        assert await first.append(row) == row
         await first.close()
 
     asyncio.run(work())
-
-
-def test_many_logs_of_one_file(tmp_path: pathlib.Path) -> None:
-    """Each row is in once, whole, and rows of one append are together."""
-
-    async def one(number: int) -> list[list[Entry]]:
-        log, own, chance = await FileLog.open(path_of(tmp_path)), [], random.Random(number)
-        for at in range(12):
-            wanted = [
-                Entry(f"{number},{at},{part}\n".encode(), (number, str(at)))
-                for part in range(chance.choice([1, 3]))
-            ]
-            is_in = False
-            while not is_in:
-                with contextlib.suppress(Held):
-                    is_in = wanted[0] in await log.append(wanted)
-            own.append(wanted)
-        await log.close()
-        return own
-
-    async def work() -> list[list[Entry]]:
-        (tmp_path / "evening.csv").touch()
-        return [it for own in await asyncio.gather(*map(one, range(5))) for it in own]
-
-    wanted, rows = asyncio.run(work()), (tmp_path / "evening.csv").read_bytes()
-    assert len(rows) == sum(len(entry.row) for it in wanted for entry in it)
-    assert all(rows.count(b"".join(entry.row for entry in it)) == 1 for it in wanted)
+    assert text_of(tmp_path / "evening.csv") == "1,1,0,kickoff\n" * 4
 
 
 # ---- what is entered
@@ -215,46 +185,6 @@ def test_more_than_one_append_takes(tmp_path: pathlib.Path, live: str) -> None:
             record.enter(sent(*result)), entered(record, goal(record), reporter=2)
         )
         assert len(outcomes) == 60 and after.row == 69
-
-    held(tmp_path, STARTED, work, live)
-
-
-def test_one_id_is_entered_once(tmp_path: pathlib.Path, live: str) -> None:
-    """Also if who sent it first has gone; and another reporter's id is another's."""
-
-    async def work(record: Record) -> None:
-        one = sent(goal(record), id="1" * 32)
-        gone = asyncio.create_task(record.enter(one))
-        await asyncio.sleep(0)
-        gone.cancel()
-        first, second = await asyncio.gather(record.enter(one), record.enter(one))
-        assert first == second == await record.enter(sent(goal(record), id="1" * 32))
-        assert isinstance(first[0], Entered)
-        (other,) = await record.enter(sent(*one.rows, reporter=2, id="1" * 32))
-        assert isinstance(other, Refused) and (other.name, other.row) == ("stale", 10)
-
-    held(tmp_path, STARTED, work, live)
-    rows = "1,1,3,goal-home\n2,1,3,goal-home\n"
-    assert text_of(tmp_path / "evening.csv") == STARTED + rows
-
-
-def test_what_is_asked_about(tmp_path: pathlib.Path, live: str) -> None:
-    """It is not entered from then on; what stands is told, also after a new start."""
-    last = Row(1, 2, "goal-away")
-
-    async def work(record: Record) -> None:
-        for way in Way.ASKED, Way.FIRST, Way.ASKED:
-            with pytest.raises(Lost):
-                await record.enter(sent(goal(record), way=way, id="2" * 32))
-        with pytest.raises(Dropped):
-            await record.enter(sent(last, edition=1, way=Way.ASKED))
-        for way in Way.ASKED, Way.AGAIN:
-            assert await record.enter(sent(last, way=way)) == [Event(8, 1, 1, "goal-away")]
-        with pytest.raises(Lost):
-            await record.enter(sent(last, reporter=2, way=Way.ASKED))
-        again = sent(goal(record), way=Way.AGAIN)
-        assert isinstance((await record.enter(again))[0], Entered)
-        assert await record.enter(sent(*again.rows, way=Way.AGAIN)) == [Event(9, 1, 1, "goal-home")]
 
     held(tmp_path, STARTED, work, live)
 
@@ -904,25 +834,6 @@ def test_random_evenings_of_one_file(tmp_path: pathlib.Path, live: str, seed: in
 
 
 # ---- how one begins
-
-
-def test_two_who_begin_a_record(tmp_path: pathlib.Path, live: str) -> None:
-    """One of them does, whole; the others are told so, and nothing of theirs stays."""
-    rows = [BEGUN.replace("Alpha", name).encode() for name in ("One", "Two", "Three")]
-
-    async def all_of_them() -> list[bool]:
-        return await asyncio.gather(*(begin(path_of(tmp_path), live, it) for it in rows))
-
-    made = asyncio.run(all_of_them())
-    assert sorted(made) == [False, False, True] and len([*tmp_path.iterdir()]) == 1
-    assert (tmp_path / "evening.csv").read_bytes() == rows[made.index(True)]
-
-
-def test_rows_that_begin_no_record(tmp_path: pathlib.Path, live: str) -> None:
-    """They are refused before there is a file."""
-    with pytest.raises(Over, match="input refused 21: slot 1"):
-        asyncio.run(begin(path_of(tmp_path), live, BEGUN.replace("Alpha", "").encode()))
-    assert [*tmp_path.iterdir()] == []
 
 
 def test_a_record_begins_on_fat(tmp_path: pathlib.Path, live: str) -> None:
