@@ -64,17 +64,21 @@ def test_rows_go_in_behind_what_was_read(where: str, live: str) -> None:
         begun = [Entry(line) for line in BEGUN.encode().splitlines(True)]
         assert await first.read() == await second.read() == begun
         rows = [Entry(b"1,1,0,kickoff\n", (1, "a")), Entry(b"\xff\0 x,\r\n", (1, "b"))]
-        late, mark = [Entry(b"late\n", (2, "c"))], [Entry(b"", (2, "d"))]
+        late, mark, last = (
+            [Entry(row, (2, key))] for row, key in ((b"late\n", "c"), (b"", "d"), (b"last\n", "e"))
+        )
         assert await first.append(rows) == rows
         assert await second.append(late) == kept(second, rows)
         assert await second.append(late) == late and await second.append([]) == []
-        assert await second.append(mark) == mark
-        assert await first.read() == kept(first, [*late, *mark]) and await first.read() == []
+        assert await second.append(mark) == mark and await second.append(last) == last
+        assert await first.read() == kept(first, [*late, *mark, *last])
+        assert await first.read() == []
         third = await opened(where)
         for log in first, second, third:
             await log.read()
-            known = [log.rows_of(key) for key in ((1, "b"), (2, "c"), (2, "d"), (3, "a"))]
-            assert known == ([[7], [8], [], None] if log.keeps_keys else [None] * 4)
+            keys = (1, "b"), (2, "c"), (2, "d"), (2, "e"), (3, "a")
+            known = [[7], [8], [], [9], None] if log.keeps_keys else [None] * 5
+            assert [log.rows_of(key) for key in keys] == known
             await log.close()
 
     asyncio.run(work())

@@ -290,11 +290,11 @@ async def node_that(says: bytes | int | None) -> AsyncIterator[str]:
 def test_a_node_that_does_not_answer(
     nodes: Nodes, where: str, live: str, monkeypatch: pytest.MonkeyPatch, says: bytes | int | None
 ) -> None:
-    """Another is asked; that none answers is told in one line."""
+    """Another is asked soon; that none answers is told in one line."""
     monkeypatch.setattr("ucl_hall.record.cluster.OPENING", 0.0)
 
     async def work() -> None:
-        async with node_that(says) as node:
+        async with node_that(says) as node, asyncio.timeout(15):
             with pytest.raises(Over, match=f"no majority of http://{node}/v3/ answers: [^\n]*$"):
                 await Record.open(f"etcd://{node}/x", live)
             record = await Record.open(where.replace("//", f"//{node},"), live)
