@@ -375,7 +375,7 @@ def test_a_connection_that_is_lost(
         assert time.monotonic() - begun < 5
 
     followed(taps, work)
-    said = {"edition": 0, "match": 1, "expected": 0, "events": ["kickoff", "goal-home"]}
+    said: Any = {"edition": 0, "match": 1, "expected": 0, "events": ["kickoff", "goal-home"]}
     names = ["tap"] if fault == "it is refused" else ["tap", "again"]
     assert sent == [{name: KICKOFF.id, **said} for name in names]
     told = NO_CONNECTION, "connected again"
@@ -472,7 +472,7 @@ def test_a_link_goes_to_the_next_server(resends: bool, name: str, groups: str | 
             await remote.enter(KICKOFF)
 
     followed(taps, work, *ports)
-    said = {"edition": 0, "match": 1, "expected": 0, "events": ["kickoff"]}
+    said: Any = {"edition": 0, "match": 1, "expected": 0, "events": ["kickoff"]}
     assert sent == [{"tap": KICKOFF.id, **said}, {name: KICKOFF.id, **said}]
 
 
