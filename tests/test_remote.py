@@ -476,44 +476,27 @@ def test_a_link_goes_to_the_next_server(resends: bool, name: str, groups: str | 
     assert sent == [{"tap": KICKOFF.id, **said}, {name: KICKOFF.id, **said}]
 
 
-def test_a_server_of_another_security_is_not_asked() -> None:
-    """A link by http goes to no server by https, whatever the first one says."""
-    ports, asked, met = [free_port(), free_port()], list[int](), list[int]()
-
-    async def taps(request: web.Request) -> web.StreamResponse:
-        asked.append(ports[0])
-        return await connected(request, at=[f"https://127.0.0.1:{ports[1]}"])
-
-    def meet(_: asyncio.StreamReader, writer: asyncio.StreamWriter) -> None:
-        met.append(ports[1])
-        writer.close()
-
-    async def work(_: Remote) -> None:
-        async with await asyncio.start_server(meet, "127.0.0.1", ports[1]):
-            async with asyncio.timeout(60):
-                while len(asked) < 3:
-                    await asyncio.sleep(0.05)
-
-    followed(taps, work, ports[0])
-    assert met == []
-
-
-def test_another_server_that_refuses_the_link() -> None:
-    """It is asked once, and the terminal goes on where the link is taken; it ends once it is taken
-    nowhere."""
-    ports, asked = [free_port(), free_port()], list[int]()
-    at = [f"http://127.0.0.1:{port}/" for port in ports]
+def test_other_servers_that_refuse_the_link() -> None:
+    """One is asked once, and the terminal goes on where the link is taken; it ends once it is taken
+    nowhere. A link by http goes to no server by https, whatever another says."""
+    here, other, by_tls = ports = [free_port() for _ in range(3)]
+    asked, met = list[int](), list[int]()
+    at = [f"https://127.0.0.1:{by_tls}", *(f"http://127.0.0.1:{port}/" for port in (here, other))]
 
     async def taps(request: web.Request) -> web.StreamResponse:
         asked.append(request.url.port or 0)
-        if request.url.port == ports[1] or len(asked) > 3:
+        if request.url.port == other or len(asked) > 4:
             return web.Response(status=404)
         return await connected(request, at=at[: len(asked)])
 
+    def meet(_: asyncio.StreamReader, writer: asyncio.StreamWriter) -> None:
+        met.append(by_tls)
+        writer.close()
+
     async def work(remote: Remote) -> None:
-        with pytest.raises(Over, match="is the link of no reporter there"):
-            async with asyncio.timeout(30):
+        async with await asyncio.start_server(meet, "127.0.0.1", by_tls), asyncio.timeout(30):
+            with pytest.raises(Over, match="is the link of no reporter there"):
                 await remote.over
 
-    followed(taps, work, *ports)
-    assert asked == [ports[0], ports[0], ports[1], ports[0]]
+    followed(taps, work, *ports[:2])
+    assert asked == [here, here, here, other, here] and met == []
