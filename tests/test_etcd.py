@@ -7,7 +7,6 @@ import contextlib
 import os
 import pathlib
 import random
-import shutil
 import signal
 import socket
 import subprocess
@@ -463,7 +462,8 @@ def test_tls_and_a_password(
             await asyncio.sleep(4)
             assert await row_of(record, tap(2)) == 8 and record.is_there
             who = {"user": "board", "password": "b"}
-            for wrong in {**who, "password": "x"}, {}, {**who, "ca": ""}:
+            wrongs: list[dict[str, str]] = [{**who, "password": "x"}, {}, {**who, "ca": ""}]
+            for wrong in wrongs:
                 with pytest.raises(Fault):
                     await Record.open(where(**wrong), live)
 
@@ -549,8 +549,8 @@ def test_without_a_majority(live: str, tmp_path: pathlib.Path) -> None:
         assert health(two.port)["fault"] == "nothing is heard of its board"
         for number in 0, 1:
             nodes.signal(number, signal.SIGCONT)
-        assert phone.until("answer", id=taps[0])["told"] == "Entered, 1\N{EN DASH}0"
-        assert other.until("answer", id=taps[1])["name"] == "entered"
+        assert phone.until("answer", id=taps[0], told="Entered, 1\N{EN DASH}0")
+        assert other.until("answer", id=taps[1], name="entered")
         assert screen.until("screen", version=3) and screen.until("pulse", groups="B")
         assert health(two.port)["fault"] == ""
 
@@ -561,7 +561,8 @@ def test_what_a_server_prints_of_a_record(where: str, live: str, tmp_path: pathl
     text, file, port = f"{STARTED}1,1,1,goal-home", tmp_path / "evening.csv", free_port()
     file.write_text(text)
     how = {"env": {**os.environ, "UCL_LIVE": live}, "cwd": tmp_path}
-    words = [TOP / "ucl_serve", where, "--from", file, "--listen", f"127.0.0.1:{port}"]
+    words: list[Any] = [TOP / "ucl_serve", where, "--from", file]
+    words += ["--listen", f"127.0.0.1:{port}"]
     with Started(words, **how) as server:
         assert server.lines() == f"Screens: http://127.0.0.1:{port}/\n"
         ran = command([TOP / "ucl_reporter", where], "1 yellow home\n", **how)
@@ -606,7 +607,7 @@ def test_one_address_by_haproxy(where: str, live: str, tmp_path: pathlib.Path) -
         for address, server in zip(("10.0.0.1", "10.0.0.2"), servers):
             lines = lines.replace(f"{address}:8080", f"127.0.0.1:{server.port}")
         (tmp_path / "cfg").write_text(lines)
-        stack.enter_context(Started([shutil.which("haproxy"), "-db", "-f", tmp_path / "cfg"]))
+        stack.enter_context(Started(["haproxy", "-db", "-f", tmp_path / "cfg"]))
 
         def phone() -> Socket:
             """It connects again until it is answered."""
@@ -621,14 +622,14 @@ def test_one_address_by_haproxy(where: str, live: str, tmp_path: pathlib.Path) -
         for number, server in enumerate(servers, 1):
             one = phone()
             id = one.tap(1, number, "goal-home")
-            assert one.until("answer", id=id)["name"] == "entered"
+            assert one.until("answer", id=id, name="entered")
             server.signal(signal.SIGKILL)
             begun = time.monotonic()
             one = phone()
             assert one.until("recent") and one.until("pulse", groups="B")
             assert time.monotonic() - begun < 2
             one.tap(1, number, "goal-home", id=id)
-            assert one.until("answer", id=id)["name"] == "entered"
+            assert one.until("answer", id=id, name="entered")
             server.start()
             assert until(lambda: is_reached(server.port))
             time.sleep(1.5)
@@ -707,8 +708,8 @@ def test_a_terminal_goes_to_the_next_server(
     """By the link of one; a line without an answer goes in by itself, once, also if the one that
     was stopped reads it late."""
     with serving(where, live, tmp_path) as (first, _, path):
-        words = [TOP / "ucl_reporter", f"http://127.0.0.1:{first.port}{path}"]
-        with Started(words, cwd=tmp_path) as far:
+        link = f"http://127.0.0.1:{first.port}{path}"
+        with Started([TOP / "ucl_reporter", link], cwd=tmp_path) as far:
             far.write("1 goal home\n")
             assert far.lines().startswith("1 goal home             entered, row 7: Bravo 1-0")
             first.signal(signal.SIGSTOP)
