@@ -152,7 +152,8 @@ def test_one_id_is_entered_once(where: str, live: str) -> None:
         await asyncio.sleep(0)
         gone.cancel()
         first, second = await asyncio.gather(here.enter(one), here.enter(one))
-        assert first == second == await here.enter(one) and isinstance(first[0], Entered)
+        assert first == second == await here.enter(replace(tap(2), id=one.id))
+        assert isinstance(first[0], Entered)
         assert await row_of(here, one) == await row_of(other, one) == 7
         for number in range(25):
             both = tap(number, match=3, reporter=3)

@@ -128,6 +128,7 @@ def test_more_events_than_a_transaction_takes(where: str, live: str) -> None:
 def test_a_beginning_that_was_cut_off(nodes: Nodes, where: str, live: str) -> None:
     """From the same rows it goes on, and from others none begins; a row that is too long begins
     none either."""
+    text = STARTED + "".join(f"1,1,{number},yellow-home\n" for number in range(1, 400))
 
     async def work() -> None:
         with pytest.raises(Over, match="there is no record"):
@@ -139,8 +140,8 @@ def test_a_beginning_that_was_cut_off(nodes: Nodes, where: str, live: str) -> No
         with pytest.raises(Over, match="line 6 has more than 4096 bytes"):
             await begin(where, live, f"{BEGUN}{'x' * 4_096}\n".encode())
         assert not await begin(where, live, BEGUN.replace("Alpha", "One").encode())
-        assert await begin(where, live, STARTED.encode())
-        assert rows_of(nodes, where) == [f"- {row}".encode() for row in STARTED.splitlines()]
+        assert await begin(where, live, text.encode())
+        assert rows_of(nodes, where) == [f"- {row}".encode() for row in text.splitlines()]
 
     asyncio.run(work())
 
