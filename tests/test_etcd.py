@@ -19,6 +19,7 @@ import pytest
 from aiohttp import ClientSession, web
 from conftest import browsers as browsers
 from drivers.nodes import Nodes, text64
+from drivers.phone import Phone
 from drivers.port import free_port, is_reached
 from drivers.program import Started, command, needs
 from drivers.records import BEGUN, STARTED, row_of, tap, worked
@@ -670,33 +671,29 @@ def test_pages_go_to_the_next_server(
     """A phone and a wall are there again in some seconds, and a tap without an answer goes in by
     itself, once."""
     with serving(where, live, tmp_path, "--reporter", "1:1") as (first, _, path):
-        phone, wall = browsers("phone"), browsers("wall")
-        phone.get(f"http://127.0.0.1:{first.port}{path}")
+        phone, wall = Phone(browsers("phone")), browsers("wall")
+        phone.browser.get(f"http://127.0.0.1:{first.port}{path}")
         wall.get(f"http://127.0.0.1:{first.port}/")
-
-        def text(page: Any, name: str) -> str:
-            found = f"return document.querySelector('{name}').textContent"
-            return str(page.execute_script(found))
-
-        assert until(lambda: text(phone, "#goals") == "0\N{EN DASH}0")
-        assert until(lambda: text(wall, ".signal") == "")
+        shown = "return document.querySelector(arguments[0]).textContent"
+        assert until(lambda: phone.text("goals") == "0\N{EN DASH}0")
+        assert until(lambda: wall.execute_script(shown, ".signal") == "")
         time.sleep(1)
         # What stands on the line for a moment only is kept too.
-        phone.execute_script(
+        phone.run(
             "window.told = []; const line = document.getElementById('line');"
             "new MutationObserver(() => told.push(line.textContent))"
             ".observe(line, {childList: true, characterData: true, subtree: true})"
         )
         first.signal(signal.SIGSTOP)
-        phone.execute_script("document.querySelector('[data-event=goal-home]').click()")
-        assert text(phone, "#note-goal-home") == "Sent"
+        phone.tap("goal-home")
+        phone.says("goal-home", "Sent")
         first.signal(end)
         if end is signal.SIGSTOP:
             told = "return told.join()"
-            assert until(lambda: "is sent again by itself" in phone.execute_script(told), 10)
-        assert until(lambda: text(phone, "#goals") == "1\N{EN DASH}0", 10)
-        assert until(lambda: text(phone, "#line") == "Reporter 1, group B", 10)
-        assert until(lambda: "1\N{EN DASH}0" in text(wall, ".matches"), 10)
+            assert until(lambda: "is sent again by itself" in phone.run(told), 10)
+        assert until(lambda: phone.text("goals") == "1\N{EN DASH}0", 10)
+        assert until(lambda: phone.text("line") == "Reporter 1, group B", 10)
+        assert until(lambda: "1\N{EN DASH}0" in wall.execute_script(shown, ".matches"), 10)
         first.signal(signal.SIGCONT if end is signal.SIGSTOP else signal.SIGKILL)
         time.sleep(1)
         (row,) = rows_of(nodes, where)[6:]
