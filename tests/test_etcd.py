@@ -534,22 +534,27 @@ def links_of(where: str) -> list[str]:
 def test_without_a_majority(live: str, tmp_path: pathlib.Path) -> None:
     """Nothing is answered; within two seconds it is told that what is shown may be old. All that
     waits goes in by itself once there is a majority."""
-    with Nodes() as nodes, serving(nodes.place("x"), live, tmp_path) as (one, two, path):
+    with contextlib.ExitStack() as stack:
+        nodes = stack.enter_context(Nodes())
+        # The node that they know stays, and is alone.
+        where = f"etcd://{nodes.host(0)}/x"
+        one, two, path = stack.enter_context(serving(where, live, tmp_path))
         phone, other = (Socket(it.port, f"{path}/taps") for it in (one, two))
         assert phone.until("pulse", groups="B") and other.until("pulse", groups="B")
-        for number in 0, 1:
+        for number in 1, 2:
             nodes.signal(number, signal.SIGSTOP)
         begun = time.monotonic()
         taps = phone.tap(1, 1, "goal-home"), other.tap(2, 0, "kickoff")
         assert phone.until("pulse", groups="") and other.until("pulse", groups="")
         assert time.monotonic() - begun < 2
         for it in phone, other:
-            assert all(it.until("pulse", groups="") for _ in range(4))
+            for _ in range(4):
+                assert it.until("pulse") and it.lines[-1]["groups"] == ""
             assert not any(said["reply"] == "answer" for said in it.lines)
         screen = Socket(two.port, "/lines")
         assert screen.until("screen", version=1) and screen.until("pulse", groups="")
         assert health(two.port)["fault"] == "nothing is heard of its board"
-        for number in 0, 1:
+        for number in 1, 2:
             nodes.signal(number, signal.SIGCONT)
         assert phone.until("answer", id=taps[0], told="Entered, 1\N{EN DASH}0")
         assert other.until("answer", id=taps[1], name="entered")
