@@ -15,7 +15,7 @@ SILENT = "engine", "record"
 SENTENCE = re.compile(r"[A-Za-z]{2,},? [a-z]{2,}")
 LONGEST_FUNCTION = 40
 # Tests that are set as the package is; what they use of other tests has no types.
-NAMES = "feed fronts hall matchday mirror record remote report reporter words worked".split()
+NAMES = "carriers etcd feed followers fronts hall matchday mirror record remote report reporter words worked".split()
 TESTS = "tests/conftest.py", "tests/feeds.py", *(f"tests/test_{it}.py" for it in NAMES)
 TYPED = PACKAGE, "examples/python", "examples/seasons", "tests/drivers"
 # What the words in braces are in the table of refusals.

@@ -24,6 +24,7 @@ from drivers.case import Unproved, differs
 from drivers.case import tabled as tabled
 from drivers.loop import loop as loop
 from drivers.loop import pytest_pyfunc_call as pytest_pyfunc_call
+from drivers.nodes import Nodes
 from drivers.port import free_port as free_port
 from drivers.port import is_reached as is_reached
 from drivers.program import Run, Started, built, command
@@ -249,6 +250,13 @@ def hall(tmp_path: pathlib.Path, live: str) -> Iterator[Callable[..., Server]]:
     yield started
     for one in servers:
         one.kill()
+
+
+@pytest.fixture(scope="session")
+def nodes() -> Iterator[Nodes]:
+    """Three nodes of etcd, which are there again where a test has ended one."""
+    with Nodes() as three:
+        yield three
 
 
 @pytest.fixture(scope="module")

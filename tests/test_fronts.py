@@ -220,7 +220,9 @@ NO_TAPS: list[dict[str, object]] = [
     *({"edition": it} for it in (-1, 65_536, "0")),
     *({"expected": it} for it in (-1, 65_536, [])),
     *({"event": it} for it in ("", "goal", "mend", 5, {}, "kickoff\n")),
-    {"ask": ID},
+    *({"events": it} for it in ([], ["kickoff", "x"], "kickoff", {"kickoff": 1})),
+    *({"ask": ID}, {"again": ID, "events": ["kickoff"]}),
+    {"expected": 65_535, "events": ["kickoff", "fulltime"]},
 ]
 
 

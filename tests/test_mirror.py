@@ -16,6 +16,7 @@ from drivers.mirror import Mirror
 from drivers.port import free_port
 from drivers.program import command
 from drivers.server import got, health
+from drivers.text import text_of
 from drivers.wait import until
 from drivers.websocket import Socket
 
@@ -230,19 +231,6 @@ def test_a_pipe_that_loses_the_last_line(mirrors: Mirrors) -> None:
     assert not mirror.is_there() and table(mirror)["version"] == len(LINES)
 
 
-def test_a_pipe_without_pulses_and_its_end(mirrors: Mirrors) -> None:
-    """What is shown is called old: nobody knows whether the board is there."""
-    mirror = mirrors("--follow", "-")
-    put(mirror, LINES)
-    assert mirror.shows(len(LINES)) and not mirror.is_there()
-    mirror.end_input()
-    screen = Socket(mirror.port, "/lines")
-    assert screen.until("screen", version=len(LINES)) and screen.receive()["groups"] == ""
-    ended = "ucl_serve: standard input has ended: nothing newer comes from there\n"
-    assert mirror.told() == ended
-    assert mirror.end(signal.SIGTERM) == (0, "", "")
-
-
 HOSTILE = [
     "",
     "null",
@@ -296,12 +284,27 @@ def test_a_follower_is_killed_before_it_has_read(mirrors: Mirrors) -> None:
     assert mirror.end(signal.SIGTERM) == (0, "", "")
 
 
-def test_a_long_pipe_takes_no_memory(mirrors: Mirrors) -> None:
-    """Lines wait in the pipe while the follower reads; repeated ones are not kept."""
+def test_a_long_pipe_and_its_end(mirrors: Mirrors) -> None:
+    """Lines wait in the pipe while the follower reads, and repeated ones are not kept. Without
+    pulses, and behind its end, what is shown is called old."""
     mirror = mirrors("--follow", "-")
+
+    def most_memory() -> int:
+        """In bytes."""
+        status = text_of(f"/proc/{mirror.process.pid}/status")
+        return int(status.split("VmHWM:")[1].split()[0]) << 10
+
+    put(mirror, LINES[:-2] * 3)
+    assert mirror.shows(len(LINES) - 2)
+    before = most_memory()
     for _ in range(100):
-        put(mirror, LINES * 3)
-    put(mirror, [LINES[-1]])
-    assert mirror.shows(len(LINES))
-    status = open(f"/proc/{mirror.process.pid}/status", encoding="ascii").read()
-    assert int(status.split("VmHWM:")[1].split()[0]) < 100 << 10
+        put(mirror, LINES[:-1] * 3)
+    put(mirror, LINES[-1:])
+    assert mirror.shows(len(LINES)) and not mirror.is_there()
+    assert most_memory() - before < 8 << 20
+    mirror.end_input()
+    ended = "ucl_serve: standard input has ended: nothing newer comes from there\n"
+    assert mirror.told() == ended
+    screen = Socket(mirror.port, "/lines")
+    assert screen.until("screen", version=len(LINES)) and screen.receive()["groups"] == ""
+    assert mirror.end(signal.SIGTERM) == (0, "", "")

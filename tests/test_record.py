@@ -151,23 +151,20 @@ def kill(record: Record) -> None:
 # ---- the log
 
 
-async def test_rows_go_in_behind_what_was_read(path: str) -> None:
-    """Who was second is told what came, and then goes in under the lock that is kept meanwhile."""
+async def test_the_lock_is_kept_behind_rows_of_others(path: str) -> None:
+    """From when they were told until the next call, or the end."""
     append_to(path, "")
     first, second = [await FileLog.open(path) for _ in range(2)]
-    assert await first.read() == await first.append([]) == []
-    rows = [Entry(b"1,1,0,kickoff\n", (1, "a")), Entry(b"\xff\0 x,\r\n", (1, "b"))]
-    late = [Entry(b"late\n", (2, "c"))]
-    assert await first.append(rows) == rows
-    assert await second.append(late) == [Entry(it.row) for it in rows]
+    row = [Entry(b"1,1,0,kickoff\n")]
+    assert await first.append(row) == row == await second.append(row)
     with pytest.raises(Held):
-        await first.append(rows)
-    assert await second.append(late) == late and await second.append([]) == []
-    assert await first.read() == [Entry(b"late\n")] and await first.read() == []
-    assert await first.append(rows[:1]) == rows[:1] and len(await second.append(late)) == 1
+        await first.append(row)
+    assert await second.append(row) == row == await first.read()
+    assert await first.append(row) == row == await second.append(row)
     await second.close()
-    assert await first.append(late) == late
+    assert await first.append(row) == row
     await first.close()
+    assert text_of(path) == "1,1,0,kickoff\n" * 4
 
 
 async def test_an_append_is_on_the_disk_before_it_is_answered(
@@ -248,37 +245,6 @@ async def test_what_waits_is_appended_together(record: Record, before_sync: Do) 
     numbers = [it.match.number for (it,) in outcomes if isinstance(it, Entered)]
     assert numbers == [*range(4, 44)] and len(syncs) <= 4
     assert [it.row for it in whole if isinstance(it, Entered)] == [*range(49, 109)]
-
-
-async def test_one_id_is_entered_once(record: Record, path: str) -> None:
-    """Also if who sent it first has gone; and another reporter's id is another's."""
-    one = sent(goal(record), id="1" * 32)
-    gone = asyncio.create_task(record.enter(one))
-    await asyncio.sleep(0)
-    gone.cancel()
-    first, second = await asyncio.gather(record.enter(one), record.enter(one))
-    assert first == second == await record.enter(sent(goal(record), id="1" * 32))
-    assert isinstance(first[0], Entered)
-    (other,) = await record.enter(sent(*one.rows, reporter=2, id="1" * 32))
-    assert isinstance(other, Refused) and (other.name, other.row) == ("stale", 10)
-    assert text_of(path) == STARTED + "1,1,3,goal-home\n2,1,3,goal-home\n"
-
-
-async def test_what_is_asked_about(record: Record) -> None:
-    """It is not entered from then on; what stands is told, also after a new start."""
-    last = Row(1, 2, "goal-away")
-    for way in Way.ASKED, Way.FIRST, Way.ASKED:
-        with pytest.raises(Lost):
-            await record.enter(sent(goal(record), way=way, id="2" * 32))
-    with pytest.raises(Dropped):
-        await record.enter(sent(last, edition=1, way=Way.ASKED))
-    for way in Way.ASKED, Way.AGAIN:
-        assert await record.enter(sent(last, way=way)) == [Event(8, 1, 1, "goal-away")]
-    with pytest.raises(Lost):
-        await record.enter(sent(last, reporter=2, way=Way.ASKED))
-    again = sent(goal(record), way=Way.AGAIN)
-    assert isinstance((await record.enter(again))[0], Entered)
-    assert await record.enter(sent(*again.rows, way=Way.AGAIN)) == [Event(9, 1, 1, "goal-home")]
 
 
 async def test_answers_of_a_thousand_are_kept(record: Record, monkeypatch: MonkeyPatch) -> None:
@@ -736,22 +702,6 @@ async def test_random_evenings_of_one_file(
 
 
 # ---- how one begins
-
-
-async def test_two_who_begin_a_record(path: str, live: str) -> None:
-    """One of them does, whole; the others are told so, and nothing of theirs stays."""
-    rows = [BEGUN.replace("Alpha", name) for name in ("One", "Two", "Three")]
-    made = await asyncio.gather(*(begin(path, live, it.encode()) for it in rows))
-    assert sorted(made) == [False, False, True]
-    assert text_of(path) == rows[made.index(True)]
-    assert os.listdir(os.path.dirname(path)) == ["evening.csv"]
-
-
-async def test_rows_that_begin_no_record(path: str, live: str) -> None:
-    """They are refused before there is a file."""
-    with pytest.raises(Over, match="input refused 21: slot 1"):
-        await begin(path, live, BEGUN.replace("Alpha", "").encode())
-    assert os.listdir(os.path.dirname(path)) == []
 
 
 @pytest.mark.parametrize("folder", ["vfat"], indirect=True)

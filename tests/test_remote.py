@@ -5,6 +5,7 @@ It has the same prompt and the same answers, through lost connections and kills.
 
 import asyncio
 import contextlib
+import itertools
 import json
 import os
 import random
@@ -12,23 +13,24 @@ import re
 import signal
 import threading
 import time
-from collections.abc import AsyncIterator, Awaitable, Callable, Iterator
-from dataclasses import asdict
+from collections.abc import Awaitable, Callable, Iterator
+from dataclasses import asdict, replace
 from typing import Any
 
 import model
 import pytest
 from aiohttp import web
-from conftest import TOP, Run, Started, command, free_port
 from drivers.board import lines_to, moment_of
-from feeds import until
-from terminals import Terminal
-from test_serve import hall as hall
+from drivers.port import free_port
+from drivers.program import Run, Started, command
+from drivers.terminal import Terminal
+from drivers.text import TOP
+from drivers.wait import until
 
+from ucl_hall.engine.history import Event
 from ucl_hall.faults import NotEntered, Over
 from ucl_hall.record.sending import Entered, Events
-from ucl_hall.remote.board import Remote
-from ucl_hall.remote.link import Link
+from ucl_hall.remote.board import NoMoreYours, NotYours, Remote
 from ucl_hall.rows import Row
 
 pytestmark = pytest.mark.limit(300)
@@ -45,20 +47,8 @@ def link(one: Any, number: int = 1) -> str:
 def typed(one: Any, place: str, lines: str, *words: str) -> Run:
     """A run of the program over these lines of input, at a record or at a link."""
     ran = command([REPORTER, place, *words], lines, cwd=one.folder, env=one.how["env"])
-    assert isinstance(ran, Run) and "Traceback" not in ran.errors
+    assert "Traceback" not in ran.errors
     return ran
-
-
-def told(process: Any) -> str:
-    """The next line that a program tells on standard error."""
-    line: bytes = process.stderr.readline()
-    return line.decode()
-
-
-def now(terminal: Any) -> str:
-    """What stands at a terminal now."""
-    terminal.read(0.5)
-    return "\n".join(terminal.screen.display)
 
 
 @pytest.fixture
@@ -153,35 +143,7 @@ def test_a_terminal_among_others(hall: Halls, terminals: Callable[..., Any]) -> 
     assert board.count("\n") == 8 and (far.end(), near.end()) == (0, 0) and far.is_as_before()
 
 
-def test_a_link_that_ends(hall: Halls, terminals: Callable[..., Any]) -> None:
-    """A new key ends the link, and with it the terminal."""
-    one = hall("--reporter", "1")
-    far, old = terminals(one, link(one)), link(one)
-    far.sees("Ctrl-D ends")
-    one.end()
-    far.sees(NO_CONNECTION)
-    one.start("--new-keys")
-    assert far.ends() == 1 and f"{old} is the link of no reporter there" in far.text().replace(
-        "\n", ""
-    )
-
-
 # ---- lost connections, and kills
-
-
-def test_a_server_that_comes_later(hall: Halls) -> None:
-    """Who types before it is there is told so once; and what was typed is in then."""
-    one = hall("--reporter", "1")
-    place = link(one)
-    one.end()
-    with Started([REPORTER, place], env=one.how["env"]) as far:
-        far.write("1 kickoff\n")
-        assert told(far) == f"ucl_reporter: {NO_CONNECTION}\n"
-        time.sleep(1.5)
-        one.start()
-        assert far.lines(1).startswith("1 kickoff               entered, row 6: Bravo 0-0 Charlie")
-        assert far.end() == (0, "", "ucl_reporter: connected again\n")
-    assert one.rows() == ["1,1,0,kickoff"]
 
 
 def test_the_server_is_killed_in_the_midst_of_a_row(
@@ -201,90 +163,15 @@ def test_the_server_is_killed_in_the_midst_of_a_row(
     for child in children:
         os.kill(child, signal.SIGKILL)
     far.sees(NO_CONNECTION)
-    assert now(far).index(NO_CONNECTION) < now(far).index("GROUP A v00001")
+    far.read(0.5)
+    shown = "\n".join(far.screen.display)
+    assert shown.index(NO_CONNECTION) < shown.index("GROUP A v00001")
     one.start()
     far.sees("1 goal home             entered, row 7: Bravo 1-0 Charlie, in play, event 2 by 1")
     far.enter("1 goal away", "entered, row 8: Bravo 1-1 Charlie")
-    assert (
-        NO_CONNECTION not in now(far)
-        and far.end() == 0
-        and one.rows() == ["1,1,0,kickoff", "1,1,1,goal-home", "1,1,2,goal-away"]
-    )
-
-
-def test_a_line_of_several_rows_that_is_killed_before_it_is_in(hall: Halls) -> None:
-    """Nothing of it was in the record: all of it is, once, when the server is back."""
-    one = hall("--reporter", "1")
-    one.process.send_signal(signal.SIGSTOP)
-    with Started([REPORTER, link(one)], env=one.how["env"]) as far:
-        far.write("2 result 2-1 reds 1-0\n")
-        assert told(far) == f"ucl_reporter: {NO_CONNECTION}\n"
-        one.end()
-        one.start()
-        assert far.lines(1).startswith("2 result 2-1 reds 1-0   entered, row 11: Delta 2-1 Alpha")
-        assert far.end().status == 0
-    assert len(one.rows()) == 6
-
-
-def test_a_connection_that_is_silent_and_comes_back(
-    hall: Halls, terminals: Callable[..., Any]
-) -> None:
-    """The same row comes by the old connection and by the new one: it is in once."""
-    one = hall("--reporter", "1")
-    far = terminals(one, link(one))
-    far.sees("Ctrl-D ends").enter("1 kickoff", "entered, row 6")
-    one.process.send_signal(signal.SIGSTOP)
-    far.type("1 goal home\r").sees(NO_CONNECTION)
-    one.process.send_signal(signal.SIGCONT)
-    far.sees("1 goal home             entered, row 7: Bravo 1-0")
-    far.enter("1 goal home", "entered, row 8: Bravo 2-0")
-    assert far.end() == 0
-    assert one.rows() == ["1,1,0,kickoff", "1,1,1,goal-home", "1,1,2,goal-home"]
-
-
-def test_a_server_that_is_silent_is_not_waited_for(
-    hall: Halls, monkeypatch: pytest.MonkeyPatch
-) -> None:
-    """It takes no leave either, for which a WebSocket would wait ten seconds more."""
-    monkeypatch.setattr("ucl_hall.remote.link.SILENCE", 2.0)
-    one = hall("--reporter", "1")
-
-    async def silent() -> float:
-        """For how long nobody is told."""
-        heard, notices = asyncio.Event(), asyncio.Queue[str]()
-        opened = Link(link(one), lambda *_: heard.set(), notices.put_nowait)
-        running = asyncio.create_task(opened.run())
-        await heard.wait()
-        one.process.send_signal(signal.SIGSTOP)
-        began = time.monotonic()
-        while await notices.get() != NO_CONNECTION:
-            pass
-        running.cancel()
-        await asyncio.gather(running, return_exceptions=True)
-        return time.monotonic() - began
-
-    assert asyncio.run(silent()) < 10
-
-
-def test_matches_that_are_another_s_when_the_server_is_back(
-    hall: Halls, terminals: Callable[..., Any]
-) -> None:
-    """What was on its way has an answer that says so, and nothing is sent for ever."""
-    one = hall("--reporter", "1:1,2", "--reporter", "2:3")
-    far = terminals(one, link(one))
-    far.sees("Ctrl-D ends").enter("1 kickoff", "entered, row 6")
-    one.process.send_signal(signal.SIGSTOP)
-    far.type("1 goal home\r").sees(NO_CONNECTION)
-    one.end()
-    far.type("2 kickoff\r1 goal away\r")
-    one.words = ("--reporter", "1:2", "--reporter", "2:1,3")
-    one.start()
-    far.sees("match 1 is not yours any more; it may be in the record: look at the match")
-    far.sees("2 kickoff               entered, row 7").sees(
-        "1 goal away             match 1 is not yours"
-    )
-    far.enter("1 goal home", "match 1 is not yours").enter("2 goal home", "entered, row 8")
-    assert far.end() == 0 and one.rows() == ["1,1,0,kickoff", "1,2,0,kickoff", "1,2,1,goal-home"]
+    far.read(0.5)
+    assert NO_CONNECTION not in "\n".join(far.screen.display) and far.end() == 0
+    assert one.rows() == ["1,1,0,kickoff", "1,1,1,goal-home", "1,1,2,goal-away"]
 
 
 def test_kills_at_any_moment(hall: Halls, seed: int, kills: int) -> None:
@@ -334,28 +221,6 @@ def test_a_link_sends_no_more_events_than_a_person_enters(hall: Halls) -> None:
     assert one.phone(1).lines[1]["version"] == 90
 
 
-@pytest.mark.parametrize(
-    "said",
-    [
-        {"events": []},
-        {"events": ["kickoff", "x"]},
-        {"events": "kickoff"},
-        {"events": ["kickoff"], "match": 3},
-        {"events": ["kickoff"], "again": "0" * 32},
-        {"events": ["kickoff", "fulltime"], "expected": 65_535},
-        {"events": {"kickoff": 1}},
-    ],
-    ids=str,
-)
-def test_messages_that_are_none(hall: Halls, said: dict[str, object]) -> None:
-    """Who sends one is cut off, and nothing of it is entered."""
-    one = hall("--reporter", "1:1,2")
-    phone = one.phone(1)
-    tap = {"tap": os.urandom(16).hex(), "edition": 0, "match": 1, "expected": 0}
-    phone.send(json.dumps({**tap, **said}))
-    assert phone.is_closed() and one.rows() == []
-
-
 # ---- servers that say anything
 
 
@@ -387,43 +252,47 @@ ANSWERS: list[dict[str, object]] = [
     {"name": "not-entered", "fault": "\u001b[2J"},
 ]
 KICKOFF = Events(1, (Row(1, 0, "kickoff"),), 0)
+GREETING = {"reply": "reporter", "number": 1, "matches": [1], "group": "A"}
+Taps = Callable[[web.Request], Awaitable[web.StreamResponse]]
 
 
-def greeting(**more: object) -> list[str]:
-    """What a server says first."""
-    screen = model.Session(["--format", "json"]).of(model.CLUBS + "screen,,,\n")[1].strip()
-    named = {"reply": "reporter", "number": 1, "matches": [1], "group": "A", **more}
-    return [json.dumps(named), screen, '{"reply":"recent","events":[]}']
-
-
-def answer(id: str, **members: object) -> str:
-    """What it answers to a message."""
+def answer(message: str, **members: object) -> str:
+    """What a server answers to a message."""
+    said = json.loads(message)
+    (id,) = (said[name] for name in ("tap", "again") if name in said)
     return json.dumps({"reply": "answer", "id": id, **members})
 
 
-@contextlib.asynccontextmanager
-async def serving(
-    port: int, taps: Callable[[web.Request], Awaitable[web.StreamResponse]]
-) -> AsyncIterator[str]:
-    """A server of a link. Gives the link."""
-    app = web.Application()
-    app.router.add_get("/report/key/taps", taps)
-    runner = web.AppRunner(app)
-    await runner.setup()
-    await web.TCPSite(runner, "127.0.0.1", port, shutdown_timeout=0.1).start()
-    try:
-        yield f"http://127.0.0.1:{port}/report/key"
-    finally:
-        await runner.cleanup()
-
-
-async def connected(request: web.Request, *lines: str) -> web.WebSocketResponse:
-    """The WebSocket of a request, which is sent these lines."""
+async def connected(
+    request: web.Request, *lines: str, rows: str = "", **named: object
+) -> web.WebSocketResponse:
+    """The WebSocket of a request, which is greeted as of a board of these rows, and sent lines."""
     socket = web.WebSocketResponse(timeout=0.1)
     await socket.prepare(request)
-    for line in lines:
+    screen = lines_to(f"{model.CLUBS}{rows}screen,,,\n")[-1].decode()
+    greeting = json.dumps({**GREETING, **named}), screen, '{"reply":"recent","events":[]}'
+    for line in (*lines, *greeting, *lines):
         await socket.send_str(line)
     return socket
+
+
+def followed(taps: Taps, work: Callable[[Remote], Awaitable[None]], *ports: int) -> None:
+    """Follows a link by the first of these servers, and does work with it."""
+
+    async def all_of_it() -> None:
+        app, at = web.Application(), ports or (free_port(),)
+        app.router.add_get("/report/key/taps", taps)
+        runner = web.AppRunner(app)
+        await runner.setup()
+        async with contextlib.AsyncExitStack() as stack:
+            stack.push_async_callback(runner.cleanup)
+            for port in at:
+                await web.TCPSite(runner, "127.0.0.1", port, shutdown_timeout=0.1).start()
+            remote = await Remote.open(f"http://127.0.0.1:{at[0]}/report/key")
+            stack.push_async_callback(remote.close)
+            await work(remote)
+
+    asyncio.run(all_of_it())
 
 
 def test_a_server_that_says_anything() -> None:
@@ -431,33 +300,24 @@ def test_a_server_that_says_anything() -> None:
     answers = list(ANSWERS)
 
     async def taps(request: web.Request) -> web.WebSocketResponse:
-        socket = await connected(request, *HOSTILE, *greeting(), *HOSTILE)
+        socket = await connected(request, *HOSTILE)
         async for message in socket:
-            await socket.send_str(answer(json.loads(message.data)["tap"], **answers.pop(0)))
+            await socket.send_str(answer(message.data, **answers.pop(0)))
         return socket
 
-    async def work() -> None:
-        async with serving(free_port(), taps) as link:
-            remote = await Remote.open(link)
-            assert (remote.number, remote.matches, remote.moment.version) == (1, [1], 0)
-            told = []
-            for _ in ANSWERS:
-                try:
-                    await remote.enter(Events(1, KICKOFF.rows, 0))
-                except Exception as fault:
-                    told.append(str(fault))
-            maybe = "it may be in the record: look at the match before you type again"
-            assert told == [
-                "None",
-                "None",
-                f"the server is of another version: {maybe}",
-                f"the server is of another version: {maybe}",
-                "None",
-                "?[2J",
-            ]
-            await remote.close()
+    async def work(remote: Remote) -> None:
+        assert (remote.number, remote.matches, remote.moment.version) == (1, [1], 0)
+        told = []
+        for _ in ANSWERS:
+            try:
+                await remote.enter(Events(1, KICKOFF.rows, 0))
+            except Exception as fault:
+                told.append(str(fault))
+        maybe = "it may be in the record: look at the match before you type again"
+        other = f"the server is of another version: {maybe}"
+        assert told == ["None", "None", other, other, "None", "?[2J"]
 
-    asyncio.run(work())
+    followed(taps, work)
 
 
 def test_an_answer_that_overtakes_its_moment() -> None:
@@ -466,21 +326,92 @@ def test_an_answer_that_overtakes_its_moment() -> None:
     entered = {**asdict(moment_of(begun).match(1)), "row": 5}
 
     async def taps(request: web.Request) -> web.WebSocketResponse:
-        socket = await connected(request, *greeting())
+        socket = await connected(request)
         async for message in socket:
-            await socket.send_str(answer(json.loads(message.data)["tap"], outcomes=[entered]))
+            await socket.send_str(answer(message.data, outcomes=[entered]))
             await asyncio.sleep(0.3)
             await socket.send_str(lines_to(begun)[-1].decode())
         return socket
 
-    async def work() -> None:
-        async with serving(free_port(), taps) as link:
-            remote = await Remote.open(link)
-            (outcome,) = await remote.enter(KICKOFF)
-            assert isinstance(outcome, Entered) and outcome.match == remote.moment.match(1)
-            await remote.close()
+    async def work(remote: Remote) -> None:
+        (outcome,) = await remote.enter(KICKOFF)
+        assert isinstance(outcome, Entered) and outcome.match == remote.moment.match(1)
 
-    asyncio.run(work())
+    followed(taps, work)
+
+
+# ---- connections that are lost
+
+
+@pytest.mark.parametrize("fault", ["it is refused", "it ends", "it is silent"])
+def test_a_connection_that_is_lost(
+    fault: str, monkeypatch: pytest.MonkeyPatch, capsys: pytest.CaptureFixture[str]
+) -> None:
+    """That is told once, and that it is there again. What has no answer is sent again as what was
+    sent before, and what stands by then has come in; who is silent takes no leave either."""
+    monkeypatch.setattr("ucl_hall.remote.link.SILENCE", 2.0)
+    text, asked, sent = "1,1,0,kickoff\n1,1,1,goal-home\n", itertools.count(), list[Any]()
+    events = replace(KICKOFF, rows=(Row(1, 0, "kickoff"), Row(1, 1, "goal-home")))
+    stands = [asdict(Event(5 + it.expected, 1, 1, it.event)) for it in events.rows]
+
+    async def taps(request: web.Request) -> web.StreamResponse:
+        is_lost = next(asked) < (2 if fault == "it is refused" else 1)
+        if is_lost and fault == "it is refused":
+            return web.Response(status=503)
+        socket = await connected(request, rows="" if is_lost else text)
+        async for message in socket:
+            sent.append(json.loads(message.data))
+            if not is_lost:
+                await socket.send_str(answer(message.data, outcomes=stands))
+            elif fault == "it is silent":
+                await asyncio.sleep(20)
+            elif request.transport:
+                request.transport.abort()
+        return socket
+
+    async def work(remote: Remote) -> None:
+        begun, match = time.monotonic(), moment_of(model.CLUBS + text).match(1)
+        assert await remote.enter(events) == [Entered(5, match), Entered(6, match)]
+        assert time.monotonic() - begun < 8
+
+    followed(taps, work)
+    said: Any = {"edition": 0, "match": 1, "expected": 0, "events": ["kickoff", "goal-home"]}
+    names = ["tap"] if fault == "it is refused" else ["tap", "again"]
+    assert sent == [{name: KICKOFF.id, **said} for name in names]
+    told = NO_CONNECTION, "connected again"
+    assert capsys.readouterr().err == "".join(f"ucl_reporter: {it}\n" for it in told)
+
+
+def test_matches_that_are_another_s_by_now() -> None:
+    """What was on its way has an answer that says so, what was typed since is not sent, and the
+    rest goes on."""
+    sent, is_lost = list[str](), asyncio.Event()
+
+    async def taps(request: web.Request) -> web.WebSocketResponse:
+        is_first = not sent
+        socket = await connected(request, matches=[1, 2] if is_first else [2])
+        async for message in socket:
+            sent.append(message.data)
+            if is_first and request.transport:
+                request.transport.abort()
+            else:
+                await socket.send_str(answer(message.data, name="not-entered", fault="as it was"))
+        return socket
+
+    async def work(remote: Remote) -> None:
+        remote.tell = lambda notice: is_lost.set()
+        entering = [asyncio.create_task(remote.enter(KICKOFF))]
+        await is_lost.wait()
+        for match in 1, 2:
+            other = Events(1, (Row(match, 1, "goal-home"),), 0)
+            entering.append(asyncio.create_task(remote.enter(other)))
+        outcomes = await asyncio.gather(*entering, return_exceptions=True)
+        assert [type(it) for it in outcomes] == [NoMoreYours, NotYours, NotEntered]
+        with pytest.raises(NotYours, match="match 1 is not yours"):
+            await remote.enter(Events(1, KICKOFF.rows, 0))
+        assert len(sent) == 2
+
+    followed(taps, work)
 
 
 @pytest.mark.parametrize(
@@ -496,12 +427,12 @@ def test_a_server_that_refuses_the_link(status: int, told: str) -> None:
     async def taps(_: web.Request) -> web.Response:
         return web.Response(status=status)
 
-    async def work() -> None:
-        async with serving(free_port(), taps) as link:
-            with pytest.raises(Over, match=re.escape(link + told)):
-                await Remote.open(link)
+    async def work(_: Remote) -> None:
+        """It is never done."""
 
-    asyncio.run(work())
+    port = free_port()
+    with pytest.raises(Over, match=re.escape(f"http://127.0.0.1:{port}/report/key{told}")):
+        followed(taps, work, port)
 
 
 # ---- several servers
@@ -523,7 +454,7 @@ def test_a_link_goes_to_the_next_server(resends: bool, name: str, groups: str | 
                 await asyncio.sleep(0.1)
 
     async def taps(request: web.Request) -> web.WebSocketResponse:
-        socket = await connected(request, *greeting(at=at, resends=resends))
+        socket = await connected(request, at=at, resends=resends)
         is_first = request.url.port == ports[0]
         told = groups if is_first else "AB"
         pulsing = asyncio.create_task(pulse(socket, told)) if told else None
@@ -531,67 +462,41 @@ def test_a_link_goes_to_the_next_server(resends: bool, name: str, groups: str | 
             sent.append(json.loads(message.data))
             if not is_first:
                 fault = {"name": "not-entered", "fault": "it is the second"}
-                await socket.send_str(answer(str(sent[-1][name]), **fault))
+                await socket.send_str(answer(message.data, **fault))
         if pulsing:
             pulsing.cancel()
         return socket
 
-    async def work() -> None:
-        async with serving(ports[0], taps) as link, serving(ports[1], taps):
-            remote = await Remote.open(link)
-            with pytest.raises(NotEntered, match="it is the second"):
-                await remote.enter(KICKOFF)
-            await remote.close()
+    async def work(remote: Remote) -> None:
+        with pytest.raises(NotEntered, match="it is the second"):
+            await remote.enter(KICKOFF)
 
-    asyncio.run(work())
-    said = {"edition": 0, "match": 1, "expected": 0, "events": ["kickoff"]}
+    followed(taps, work, *ports)
+    said: Any = {"edition": 0, "match": 1, "expected": 0, "events": ["kickoff"]}
     assert sent == [{"tap": KICKOFF.id, **said}, {name: KICKOFF.id, **said}]
 
 
-def test_a_server_of_another_security_is_not_asked() -> None:
-    """A link by http goes to no server by https, whatever the first one says."""
-    ports, asked, met = [free_port(), free_port()], list[int](), list[int]()
-
-    async def taps(request: web.Request) -> web.StreamResponse:
-        asked.append(ports[0])
-        return await connected(request, *greeting(at=[f"https://127.0.0.1:{ports[1]}"]))
-
-    def meet(_: asyncio.StreamReader, writer: asyncio.StreamWriter) -> None:
-        met.append(ports[1])
-        writer.close()
-
-    async def work() -> None:
-        other = await asyncio.start_server(meet, "127.0.0.1", ports[1])
-        async with other, serving(ports[0], taps) as link:
-            remote = await Remote.open(link)
-            async with asyncio.timeout(60):
-                while len(asked) < 3:
-                    await asyncio.sleep(0.05)
-            await remote.close()
-
-    asyncio.run(work())
-    assert met == []
-
-
-def test_another_server_that_refuses_the_link() -> None:
-    """It is asked once, and the terminal goes on where the link is taken; it ends once it is taken
-    nowhere."""
-    ports, asked = [free_port(), free_port()], list[int]()
-    at = [f"http://127.0.0.1:{port}/" for port in ports]
+def test_other_servers_that_refuse_the_link() -> None:
+    """One is asked once, and the terminal goes on where the link is taken; it ends once it is taken
+    nowhere. A link by http goes to no server by https, whatever another says."""
+    here, other, by_tls = ports = [free_port() for _ in range(3)]
+    asked, met = list[int](), list[int]()
+    at = [f"https://127.0.0.1:{by_tls}", *(f"http://127.0.0.1:{port}/" for port in (here, other))]
 
     async def taps(request: web.Request) -> web.StreamResponse:
         asked.append(request.url.port or 0)
-        if request.url.port == ports[1] or len(asked) > 3:
+        if request.url.port == other or len(asked) > 4:
             return web.Response(status=404)
-        return await connected(request, *greeting(at=at[: len(asked)]))
+        return await connected(request, at=at[: len(asked)])
 
-    async def work() -> None:
-        async with serving(ports[0], taps) as link, serving(ports[1], taps):
-            remote = await Remote.open(link)
+    def meet(_: asyncio.StreamReader, writer: asyncio.StreamWriter) -> None:
+        met.append(by_tls)
+        writer.close()
+
+    async def work(remote: Remote) -> None:
+        async with await asyncio.start_server(meet, "127.0.0.1", by_tls), asyncio.timeout(30):
             with pytest.raises(Over, match="is the link of no reporter there"):
-                async with asyncio.timeout(30):
-                    await remote.over
-            await remote.close()
+                await remote.over
 
-    asyncio.run(work())
-    assert asked == [ports[0], ports[0], ports[1], ports[0]]
+    followed(taps, work, *ports[:2])
+    assert asked == [here, here, here, other, here] and met == []

@@ -1,8 +1,8 @@
-"""An evening whose record is in etcd: servers, phones at all of them, screens, faults; and what has to hold of it afterwards."""
+"""An evening whose record is in etcd: servers, phones at all of them, screens, faults; and what has
+to hold of it afterwards."""
 
 import asyncio
 import contextlib
-import itertools
 import json
 import os
 import pathlib
@@ -10,25 +10,28 @@ import random
 import signal
 import subprocess
 import time
-from base64 import b64decode
 from collections import Counter
 from collections.abc import AsyncIterator, Awaitable, Callable
 from dataclasses import dataclass, field
+from functools import partial
 from typing import Any
 
 import aiohttp
 import model
-from conftest import TOP, built, free_port
-from nodes import Nodes, text64
+
+from drivers.board import lines_to
+from drivers.nodes import Nodes
+from drivers.port import free_port
+from drivers.text import TOP
 
 SERVE, REPORTER = str(TOP / "ucl_serve"), str(TOP / "ucl_reporter")
 # After how many seconds without a word of the board a phone goes to the next server, as a page.
 NEXT = 1.75
-# The rows of the group and its clubs.
-BEGUN = range(5)
+# How many rows are those of the group and its clubs.
+BEGUN = 5
 # What says that a server is gone.
 FAILURES = aiohttp.ClientError, OSError, asyncio.TimeoutError, TypeError
-WORDS = [it for it in model.WORDS if it not in ("fulltime", "reopen")]
+WORDS: list[str] = [it for it in model.WORDS if it not in ("fulltime", "reopen")]
 
 
 @dataclass
@@ -50,14 +53,13 @@ class Server:
     def __init__(self, port: int, words: list[str], live: str, folder: pathlib.Path) -> None:
         self.port, self.words, self.folder = port, words, folder
         self.environment = {**os.environ, "UCL_LIVE": live}
-        self.process = self.started()
+        self.start()
 
-    def started(self) -> "subprocess.Popen[bytes]":
+    def start(self) -> None:
         """Starts it."""
         words = [SERVE, *self.words, "--listen", f"127.0.0.1:{self.port}"]
-        told = open(self.folder / f"{self.port}.log", "ab")
-        with told:
-            return subprocess.Popen(words, env=self.environment, stdout=told, stderr=told)
+        with open(self.folder / f"{self.port}.log", "ab") as told:
+            self.process = subprocess.Popen(words, env=self.environment, stdout=told, stderr=told)
 
     def signal(self, which: signal.Signals) -> None:
         """Kills it, stops it, or has it go on."""
@@ -100,7 +102,8 @@ class Phone:
         self.heard, tapping = time.monotonic(), None
         try:
             while time.monotonic() - self.heard < NEXT and not self.is_done:
-                said = json.loads(await line_of(stream, NEXT))
+                async with asyncio.timeout(NEXT):
+                    said = json.loads(await stream.receive_str())
                 await self.take(stream, said)
                 if said["reply"] == "recent" and tapping is None:
                     tapping = asyncio.create_task(self.tap(stream))
@@ -150,13 +153,11 @@ class Evening:
     """Two servers of one record, four reporters of two matches each with a phone, and a screen at
     each server."""
 
-    def __init__(
-        self, nodes: Nodes, live: str, folder: pathlib.Path, seed: int, servers: int = 2
-    ) -> None:
-        self.nodes, self.live, self.folder = nodes, live, folder
+    def __init__(self, nodes: Nodes, live: str, folder: pathlib.Path, seed: int) -> None:
+        self.nodes, self.live = nodes, live
         self.chance, self.is_over, self.pause = random.Random(seed), False, 0.1
         self.place = nodes.place(f"evening-{seed}-{os.urandom(3).hex()}")
-        self.ports = [free_port() for _ in range(servers)]
+        self.ports = [free_port(), free_port()]
         self.name = self.place.rsplit("/", 1)[1]
         words = [self.place, "--clubs", str(TOP / "examples/one_goal.csv")]
         for number in range(1, 5):
@@ -165,9 +166,8 @@ class Evening:
             words += ["--at", f"http://127.0.0.1:{port}"]
         self.servers = [Server(port, words, live, folder) for port in self.ports]
         self.keys: dict[int, str] = {}
-        # What each screen got, in its order, and all lines in the order in which they came.
+        # What each screen got, in its order.
         self.screens: list[list[dict[str, Any]]] = []
-        self.lines: list[str] = []
         self.faults: Counter[str] = Counter()
         self.mends = 0
 
@@ -209,17 +209,8 @@ class Evening:
 
     def known_keys(self) -> dict[int, str]:
         """The keys of the reporters, by what etcd has."""
-        prefix = f"/ucl/{self.name}/keys/"
-        return {int(key[-3:]): value.decode() for key, value in self.range(prefix).items()}
-
-    def range(self, prefix: str) -> dict[str, bytes]:
-        """All keys of a prefix with their values."""
-        body: dict[str, object] = {"key": text64(prefix), "range_end": text64(f"{prefix[:-1]}0")}
-        said = self.nodes.call("kv/range", body) or {}
-        return {
-            b64decode(it["key"]).decode(): b64decode(it.get("value", ""))
-            for it in said.get("kvs", [])
-        }
+        keys = self.nodes.range(f"/ucl/{self.name}/keys/")
+        return {int(key[-3:]): value.decode() for key, value in keys.items()}
 
     @contextlib.asynccontextmanager
     async def connected(
@@ -242,11 +233,10 @@ class Evening:
                     screen: list[dict[str, Any]] = []
                     self.screens.append(screen)
                     while True:
-                        line = await line_of(stream, 5.0)
-                        said = json.loads(line)
+                        async with asyncio.timeout(5.0):
+                            said = json.loads(await stream.receive_str())
                         if said["reply"] == "screen":
-                            screen.append(said)
-                            self.lines.append(line)
+                            screen.append({**said, "row": 0})
             await asyncio.sleep(0.2)
 
     async def fault(self) -> None:
@@ -255,35 +245,19 @@ class Evening:
             ["leader", "leader", "node", "stopped node", "server", "stopped server", "majority"]
         )
         self.faults[kind] += 1
-        seconds = self.chance.uniform(0.1, 2.5)
-        if "server" in kind:
-            server = self.chance.choice(self.servers)
-            await self.away(server, kind.startswith("stopped"), seconds)
-            return
         number = self.chance.randrange(len(self.nodes.nodes))
-        if kind == "leader":
-            leader = await asyncio.to_thread(self.nodes.leader)
-            number = number if leader is None else leader
-        if kind in ("leader", "node"):
-            self.nodes.signal(number, signal.SIGKILL)
-            await asyncio.sleep(seconds)
-            self.nodes.start(number)
-            return
-        both = [number, (number + 1) % 3][: 2 if kind == "majority" else 1]
-        for it in both:
-            self.nodes.signal(it, signal.SIGSTOP)
-        await asyncio.sleep(seconds)
-        for it in both:
-            self.nodes.signal(it, signal.SIGCONT)
-
-    async def away(self, server: Server, is_stopped: bool, seconds: float) -> None:
-        """A server is stopped, or killed and started again."""
-        server.signal(signal.SIGSTOP if is_stopped else signal.SIGKILL)
-        await asyncio.sleep(seconds)
-        if is_stopped:
-            server.signal(signal.SIGCONT)
-        else:
-            server.process = server.started()
+        if kind == "leader" and (leader := await asyncio.to_thread(self.nodes.leader)) is not None:
+            number = leader
+        numbers = [number, (number + 1) % 3][: 2 if kind == "majority" else 1]
+        nodes = [(partial(self.nodes.signal, it), partial(self.nodes.start, it)) for it in numbers]
+        server = self.chance.choice(self.servers)
+        victims: list[Any] = [(server.signal, server.start)] if "server" in kind else nodes
+        is_stopped = kind.startswith("stopped") or kind == "majority"
+        for signalled, _ in victims:
+            signalled(signal.SIGSTOP if is_stopped else signal.SIGKILL)
+        await asyncio.sleep(self.chance.uniform(0.1, 2.5))
+        for signalled, start in victims:
+            signalled(signal.SIGCONT) if is_stopped else start()
 
     async def mend(self) -> None:
         """The desk begins another edition, by a program of its own."""
@@ -311,117 +285,75 @@ class Evening:
         """What was told is what the log has, by the rules. Gives the counts."""
         entries = self.entries()
         rows = [row for _, row in entries if row]
-        answers = answers_to(rows)
-        place = {key: at for at, (key, _) in enumerate(entries) if key != "-"}
-        counts = itertools.accumulate(int(row != "") for _, row in entries)
-        number = dict(enumerate(counts))
-        assert len(place) == sum(key != "-" for key, _ in entries), "a key is in the log twice"
-        names: Counter[str] = Counter()
+        answers = iter(answers_to(rows))
+        # By the key of what was sent its row, which is empty of a mark, and the answer to it.
+        found: dict[str, tuple[str | None, dict[str, Any]]] = {}
+        for key, row in entries:
+            answer = next(answers) if row else {}
+            assert key not in found, "a key is in the log twice"
+            if key != "-":
+                found[key] = row, answer
         for phone in phones:
-            last = -1
-            for tap in phone.taps:
-                names[tap.name] += 1
-                key = f"{phone.number}.{tap.id}"
-                check_tap(tap, phone.number, entries, place.get(key), number, answers)
-                if key in place:
-                    assert place[key] > last, "a reporter's taps are in another order"
-                    last = place[key]
-        tapped = {f"{phone.number}.{tap.id}" for phone in phones for tap in phone.taps}
-        strangers = [key for key in place if not key.startswith("0.") and key not in tapped]
-        assert not strangers
+            taps = {f"{phone.number}.{tap.id}": tap for tap in phone.taps}
+            own = [key for key in found if key.startswith(f"{phone.number}.")]
+            assert own == [key for key in taps if key in found], "no taps, or in another order"
+            for key, tap in taps.items():
+                check_tap(tap, phone.number, *found.get(key, (None, {})))
         self.check_screens(rows)
+        names = Counter(tap.name for phone in phones for tap in phone.taps)
         return f"{dict(names)}, {len(rows)} rows, {dict(self.faults)}, {self.mends} mends"
 
     def entries(self) -> list[tuple[str, str]]:
         """The log: of each place its key and its row, which is empty of a mark."""
         prefix, found = f"/ucl/{self.name}/rows/", []
-        for at, (key, value) in enumerate(sorted(self.range(prefix).items()), 1):
+        for at, (key, value) in enumerate(self.nodes.range(prefix).items(), 1):
             assert key == f"{prefix}{at:010}"
             first, _, row = value.decode().partition(" ")
             found.append((first, row))
         return found
 
     def check_screens(self, rows: list[str]) -> None:
-        """Each screen of each server is one of the log's, and newer than the one before; all lines
-        in the order in which they came end with the log's own."""
-        session, moments = model.Session(["--format", "json", "--screens"]), {}
-        for at, row in enumerate([*rows, "screen,,,"], 1):
-            shown = session.answers(at, "screen,,,") if at == len(BEGUN) + 1 else []
-            for line in [*shown, *session.answers(at, row)]:
-                said = json.loads(line)
-                if said["reply"] == "screen":
-                    moments[said["edition"], said["version"]] = without_row(said)
+        """Each screen of each server is one of the log's, and newer than the one before; the last
+        is the log's own."""
+        begun, text = (
+            "".join(f"{row}\n" for row in it) for it in ([*rows[:BEGUN], "screen,,,"], rows)
+        )
+        moments = {}
+        for said in map(json.loads, [*lines_to(begun), *lines_to(text)]):
+            if said["reply"] == "screen":
+                moments[said["edition"], said["version"]] = {**said, "row": 0}
         for screen in self.screens:
             ages = [(it["edition"], it["version"]) for it in screen]
             assert ages == sorted(set(ages)), f"a screen went back: {ages}"
-            assert all(without_row(it) == moments[age] for it, age in zip(screen, ages))
-        assert max(moments) in [(it["edition"], it["version"]) for it in self.screens[-1]]
-        follow = os.environ.get("UCL_FOLLOW") or str(built("ucl_follow", TOP))
-        words = [follow, "--format", "json"]
-        mixed = "".join(f"{line}\n" for line in self.lines)
-        ran = subprocess.run(words, input=mixed.encode(), capture_output=True)
-        last = json.loads(ran.stdout.splitlines()[-1])
-        assert without_row(last) == moments[max(moments)]
+            assert all(it == moments[age] for it, age in zip(screen, ages))
+        assert moments[max(moments)] in self.screens[-1]
         printed = subprocess.run([REPORTER, self.place, "--rows"], capture_output=True).stdout
-        assert printed.decode() == "".join(f"{row}\n" for row in rows)
-        words = [self.live, "--format", "json"]
-        ran = subprocess.run(words, input=printed + b"screen,,,\n", capture_output=True)
-        assert without_row(json.loads(ran.stdout.splitlines()[-1])) == moments[max(moments)]
+        assert printed.decode() == text
 
 
-async def line_of(stream: aiohttp.ClientWebSocketResponse, seconds: float) -> str:
-    """The next line, which comes in so many seconds."""
-    async with asyncio.timeout(seconds):
-        return await stream.receive_str()
-
-
-def answers_to(rows: list[str]) -> dict[int, dict[str, Any]]:
-    """What the rules say of each row, by its number; of an event that came in with the score."""
-    session, answers = model.Session(["--format", "json"]), {}
+def answers_to(rows: list[str]) -> list[dict[str, Any]]:
+    """What the rules say of each row, of an event that came in with the score; nothing of one that
+    is no event."""
+    session, answers = model.Session(["--format", "json"]), list[dict[str, Any]]()
     for at, row in enumerate(rows, 1):
-        for line in session.answers(at, row):
-            said = json.loads(line)
+        answers.append({})
+        for said in map(json.loads, session.answers(at, row)):
+            if said["reply"] == "ok":
+                home, away = session.matches[said["match"] - 1].goals
+                said["told"] = f"Entered, {home}\N{EN DASH}{away}"
             if said["reply"] in ("ok", "refused"):
-                answers[at] = said
-                if said["reply"] == "ok":
-                    home, away = session.matches[said["match"] - 1].goals
-                    said["told"] = f"Entered, {home}\N{EN DASH}{away}"
+                answers[-1] = said
     return answers
 
 
-def check_tap(
-    tap: Tap,
-    number: int,
-    entries: list[tuple[str, str]],
-    place: int | None,
-    numbers: dict[int, int],
-    answers: dict[int, dict[str, Any]],
-) -> None:
-    """What a phone was told of a tap is so."""
-    about = f"{tap} at {place}"
-    assert tap.name in (
-        "entered",
-        "dropped",
-        "lost",
-        *(it["name"] for it in answers.values() if it["reply"] == "refused"),
-    ), about
-    if tap.name == "dropped":
-        assert place is None, about
+def check_tap(tap: Tap, number: int, row: str | None, answer: dict[str, Any]) -> None:
+    """What a phone was told of a tap is so. It has no row where it is not in the log."""
+    about, said = f"{tap}: {row}, {answer}", tap.said
+    if tap.name in ("dropped", "lost"):
+        assert row == (None if tap.name == "dropped" else ""), about
         return
-    assert place is not None, about
-    row = entries[place][1]
-    if tap.name == "lost":
-        assert row == "", about
-        return
-    said = tap.said
     assert row == f"{number},{said['match']},{said['expected']},{said['event']}", about
-    answer = answers[numbers[place]]
     if tap.name == "entered":
         assert answer["reply"] == "ok" and tap.told in ("Entered", answer["told"]), about
     else:
         assert (answer["reply"], answer["name"]) == ("refused", tap.name), about
-
-
-def without_row(said: dict[str, Any]) -> dict[str, Any]:
-    """A screen without the row that it was asked by."""
-    return {name: value for name, value in said.items() if name != "row"}
