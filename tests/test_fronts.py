@@ -3,7 +3,6 @@ over a board that answers whatever the test gives. What a record does about its 
 test_record, and what a real terminal does about keys and signals in test_reporter."""
 
 import asyncio
-import contextlib
 import errno
 import json
 import os
