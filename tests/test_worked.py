@@ -339,7 +339,7 @@ def test_fifty_nights(run: Callable[..., Run]) -> None:
     fed = run("ucl_night", "feed", input=WHOLE).output
     words = "".join(line for line in fed.splitlines(True) if line.startswith("word,"))
     assert run("ucl_night", "show", input=CLUBS + words) == (0, WHOLE_SCREEN, "")
-    versions = set()
+    versions: set[str] = set()
     for _ in range(50):
         ran = run("ucl_night", "night", "--readings", "20", input=WHOLE)
         told = ENDS.fullmatch(ran.output)
