@@ -322,13 +322,13 @@ def test_output_that_fails_after_any_byte(
 @pytest.mark.parametrize("line", RUNS)
 def test_input_that_fails(program: Any, devices: pathlib.Path, line: str) -> None:
     """Nothing is written."""
-    for room in [0, 1, 64, len(RUNS[line][0])]:
+    length = len(RUNS[line][0])
+    for room in {0, 1, 64, min(100, length), length}:
         ran = failing(program, devices, line, room, 1 << 30, "fail")
         assert ran == (4, "", f"reading failed 22: after {room} bytes\n")
 
 
 # ---- nights
-
 
 SCREEN_THEN = rf"GROUP A v(\d{{5}}) IN PLAY \d\n{HEAD}(?:\d [-+ ] .{{49}}\n){{4}}"
 ENDS = re.compile(f"READER 1\n{SCREEN_THEN}READER 2\n{SCREEN_THEN}FINAL\n{re.escape(WHOLE_SCREEN)}")
