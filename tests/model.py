@@ -5,30 +5,20 @@ Text is str. What programs, the library and pages give is compared with what sta
 
 import csv
 import io
+import itertools
 import json
 import re
 
 csv.field_size_limit(1 << 30)
-FIXTURES = [
-    (2, 3),
-    (4, 1),
-    (1, 2),
-    (3, 4),
-    (3, 1),
-    (2, 4),
-    (1, 3),
-    (4, 2),
-    (3, 2),
-    (1, 4),
-    (2, 1),
-    (4, 3),
-]
+# The home and the away slot of each match.
+FIXTURES = [(int(h), int(a)) for h, a in "23 41 12 34 31 24 13 42 32 14 21 43".split()]
 SIDED = ["goal", "disallow", "yellow", "second-yellow", "red"]
 WORDS = ["kickoff", "fulltime", "reopen"] + [
     f"{kind}-{side}" for kind in SIDED for side in ("home", "away")
 ]
 SCHEDULED, IN_PLAY, FINISHED = range(3)
 STATES = "SCHEDULED", "IN PLAY", "FINISHED"
+ORDERS = "uefa", "away-in-tie"
 # The clubs of the examples.
 ROSTER = [("Alpha", 60_000), ("Bravo", 95_000), ("Charlie", 60_000), ("Delta", 81_500)]
 CLUBS = "".join(
@@ -51,20 +41,9 @@ class Match:
     def members(self, game):
         """The match with this number as it stands, in JSON."""
         home, away = FIXTURES[game - 1]
-        members = {
-            "match": game,
-            "home": home,
-            "away": away,
-            "number": self.number,
-            "state": STATES[self.state],
-            "reporter": self.reporter,
-        }
-        return {
-            **members,
-            "score": self.goals,
-            "yellows": self.yellows,
-            "expulsions": self.expulsions,
-        }
+        members = {"match": game, "home": home, "away": away, "number": self.number}
+        members |= {"state": STATES[self.state], "reporter": self.reporter, "score": self.goals}
+        return members | {"yellows": self.yellows, "expulsions": self.expulsions}
 
     def refusal(self, expected, word):
         """The first rule that refuses the event, as its number and name; None where none does."""
@@ -100,21 +79,16 @@ class Match:
 
     def word(self):
         """The match word."""
-        fields = [
-            (self.number, 0),
-            (self.state, 12),
-            (self.goals[0], 14),
-            (self.goals[1], 20),
-            (self.yellows[0], 26),
-        ]
-        fields += [
-            (self.yellows[1], 32),
-            (self.expulsions[0], 38),
-            (self.expulsions[1], 43),
-            (self.reporter, 48),
-            (2, 60),
-        ]
-        return f"{sum(value << low for value, low in fields):016x}"
+        values = (
+            self.number,
+            self.state,
+            *self.goals,
+            *self.yellows,
+            *self.expulsions,
+            self.reporter,
+        )
+        lows = 0, 12, 14, 20, 26, 32, 38, 43, 48
+        return f"{(2 << 60) + sum(value << low for value, low in zip(values, lows)):016x}"
 
 
 def match_of(word):
@@ -196,15 +170,11 @@ def among(matches, clubs):
 def overall(matches, club, coefficients):
     """What decides where head to head does not: all matches of the club, its coefficient, its slot."""
     seen = list(results(matches, club))
-    away = [it for it in seen if it[0]]
-    wins = [it for it in seen if it[1] > it[2]]
-    of_matches = triple(matches, club)[1:] + (
-        sum(it[1] for it in away),
-        len(wins),
-        sum(it[1] > it[2] for it in away),
-        -sum(it[3] for it in seen),
-    )
-    return of_matches + (coefficients[club - 1], -club)
+    away, wins = [it for it in seen if it[0]], [it for it in seen if it[1] > it[2]]
+    away_goals, away_wins = sum(it[1] for it in away), sum(it[0] for it in wins)
+    cards = sum(it[3] for it in seen)
+    of_matches = *triple(matches, club)[1:], away_goals, len(wins), away_wins, -cards
+    return *of_matches, coefficients[club - 1], -club
 
 
 def settled(matches, clubs, coefficients, away_counts=False):
@@ -238,45 +208,30 @@ def places(matches, roster, away_counts):
     sure = {c: points(ended, c) for c in clubs}
     reach = {c: sure[c] + 3 * (6 - len(list(results(ended, c)))) for c in clubs}
     for place, club in enumerate(clubs, 1):
+        others = [other for other in clubs if other != club]
         if len(ended) == 12:
             mark = "+" if place <= 2 else "-"
-        elif sum(reach[other] >= sure[club] for other in clubs if other != club) <= 1:
+        elif sum(reach[other] >= sure[club] for other in others) <= 1:
             mark = "+"
         else:
-            mark = (
-                "-"
-                if sum(sure[other] > reach[club] for other in clubs if other != club) >= 2
-                else ""
-            )
+            mark = "-" if sum(sure[other] > reach[club] for other in others) >= 2 else ""
         seen = list(results(begun, club))
         won, lost = sum(it[1] > it[2] for it in seen), sum(it[1] < it[2] for it in seen)
         ours, theirs = sum(it[1] for it in seen), sum(it[2] for it in seen)
         drawn = len(seen) - won - lost
-        yield {
-            "place": place,
-            "mark": mark,
-            "slot": club,
-            "club": roster[club - 1][0],
-            "played": len(seen),
-            "won": won,
-            "drawn": drawn,
-            "lost": lost,
-            "goals_for": ours,
-            "goals_against": theirs,
-            "goal_difference": ours - theirs,
-            "points": 3 * won + drawn,
-        }
+        row = {"place": place, "mark": mark, "slot": club, "club": roster[club - 1][0]}
+        row |= {"played": len(seen), "won": won, "drawn": drawn, "lost": lost}
+        row |= {"goals_for": ours, "goals_against": theirs, "goal_difference": ours - theirs}
+        yield row | {"points": 3 * won + drawn}
 
 
 def screen(matches, roster=ROSTER, group="A", away_counts=False):
     """The screen of the twelve matches."""
     lines = [f"GROUP {group} v{version(matches):05d} IN PLAY {in_play(matches)}"]
     lines.append("    Club                  P  W  D  L  GF  GA   GD Pts")
-    for it in places(matches, roster, away_counts):
-        numbers = f"{it['played']:3}{it['won']:3}{it['drawn']:3}{it['lost']:3}{it['goals_for']:4}{it['goals_against']:4}"
-        lines.append(
-            f"{it['place']} {it['mark'] or ' '} {it['club']:20}{numbers}{it['goal_difference']:+5}{it['points']:4}"
-        )
+    form = "{place} {mark:1} {club:20}{played:3}{won:3}{drawn:3}{lost:3}"
+    form += "{goals_for:4}{goals_against:4}{goal_difference:+5}{points:4}"
+    lines += [form.format(**row) for row in places(matches, roster, away_counts)]
     return "".join(line + "\n" for line in lines)
 
 
@@ -287,14 +242,12 @@ def sheet(matches):
 
 def match_lines(matches, roster=ROSTER):
     """The twelve matches, a line each."""
-    sides = lambda numbers: f"{numbers[0]}-{numbers[1]}"
     lines = []
     for game, (m, (home, away)) in enumerate(zip(matches, FIXTURES), 1):
         stands = f"match {game:2} v{m.number:04} {STATES[m.state]:9} {m.goals[0]:2}-{m.goals[1]}"
+        cards = "Y {}-{} E {}-{}".format(*m.yellows, *m.expulsions)
         clubs = f"{roster[home - 1][0]} v {roster[away - 1][0]}"
-        lines.append(
-            f"{stands} Y {sides(m.yellows)} E {sides(m.expulsions)} by {m.reporter:3} {clubs}\n"
-        )
+        lines.append(f"{stands} {cards} by {m.reporter:3} {clubs}\n")
     return "".join(lines)
 
 
@@ -303,26 +256,22 @@ def match_lines(matches, roster=ROSTER):
 
 def records(text):
     """The records of comma separated values, as Python's own reader has them; an empty line is none."""
-    return [
-        record for record in csv.reader(io.StringIO(text.replace("\r", "\n"), newline="")) if record
-    ]
+    lines = io.StringIO(text.replace("\r", "\n"), newline="")
+    return [record for record in csv.reader(lines) if record]
 
 
 def number(text, most, low, high):
     """The number that a field says, within its digits and its range; None where it says none."""
-    if not 1 <= len(text) <= most or not all(c in "0123456789" for c in text):
-        return None
-    return int(text) if low <= int(text) <= high else None
+    is_number = re.fullmatch(f"[0-9]{{1,{most}}}", text) and low <= int(text) <= high
+    return int(text) if is_number else None
 
 
 def club(fields, slot):
     """The name and the coefficient of the club that a row names for a slot; None where it names none."""
-    coefficient = number(fields[3], 9, 0, 999_999_999) if len(fields) == 4 else None
-    return (
-        None
-        if coefficient is None or fields[:2] != ["club", str(slot)]
-        else (fields[2], coefficient)
-    )
+    if len(fields) != 4 or fields[:2] != ["club", str(slot)]:
+        return None
+    coefficient = number(fields[3], 9, 0, 999_999_999)
+    return None if coefficient is None else (fields[2], coefficient)
 
 
 def bad_slots(roster):
@@ -333,11 +282,8 @@ def bad_slots(roster):
 
 def numbers(fields):
     """The reporter, the match and the number that is expected of a row of four fields, each None where its field says none."""
-    return (
-        number(fields[0], 3, 1, 255),
-        number(fields[1], 2, 1, 12),
-        number(fields[2], 5, 0, 65_535),
-    )
+    limits = (3, 1, 255), (2, 1, 12), (5, 0, 65_535)
+    return [number(field, *limit) for field, limit in zip(fields, limits)]
 
 
 def event(fields):
@@ -355,17 +301,11 @@ def bad_field(fields):
 
 def mend(fields):
     """The row that a mend leaves out, and the edition that it names, one of them None; None where a row is no mend."""
-    if (
-        len(fields) != 4
-        or fields[0] != "mend"
-        or fields[3] != ""
-        or (fields[1] == "") == (fields[2] == "")
-    ):
+    if len(fields) != 4 or (fields[0], fields[3]) != ("mend", "") or "" not in fields[1:3]:
         return None
-    said = (
-        number(fields[1], 10, 1, LAST_ROW) if fields[1] else number(fields[2], 5, 0, LAST_EDITION)
-    )
-    return None if said is None else (said, None) if fields[1] else (None, said)
+    row = number(fields[1], 10, 1, LAST_ROW)
+    edition = number(fields[2], 5, 0, LAST_EDITION)
+    return None if row is None and edition is None else (row, edition)
 
 
 def mended(events, without):
@@ -386,19 +326,9 @@ def mended(events, without):
 
 def word(fields, game):
     """The word that a row gives for a match; None where it gives none."""
-    is_word = (
-        len(fields) == 4
-        and fields[0] == "word"
-        and number(fields[1], 2, game, game)
-        and fields[3] == ""
-    )
-    return (
-        fields[2]
-        if is_word
-        and len(fields[2]) == 16
-        and all(c in "0123456789abcdefABCDEF" for c in fields[2])
-        else None
-    )
+    is_word = len(fields) == 4 and (fields[0], fields[3]) == ("word", "")
+    is_word = is_word and number(fields[1], 2, game, game)
+    return fields[2] if is_word and re.fullmatch("[0-9a-fA-F]{16}", fields[2]) else None
 
 
 def fields_on(row, line):
@@ -427,21 +357,12 @@ def matches_of(words):
     return found
 
 
-def parsed(text, reads=event, most=None):
-    """The roster of an input, and what the rows after it say: the events of a script, or the words of a sheet."""
+def parsed(text, reads=lambda fields, row: event(fields), least=4):
+    """The roster of an input of at least so many rows, and what the rows after it say: the events of a script, or the words of a sheet."""
     rows = records(text)
     roster, found = [], []
-    for row in range(1, max(len(rows), 4 + (most or 0)) + 1):
-        fields = rows[row - 1] if row <= len(rows) else []
-        said = (
-            club(fields, row)
-            if row <= 4
-            else reads(fields)
-            if not most
-            else reads(fields, row - 4)
-            if row <= 4 + most
-            else None
-        )
+    for row, fields in enumerate(rows + [[]] * (least - len(rows)), 1):
+        said = club(fields, row) if row <= 4 else reads(fields, row)
         if said is None:
             raise Fault(f"input refused 20: row {row}")
         (roster if row <= 4 else found).append(said)
@@ -450,19 +371,16 @@ def parsed(text, reads=event, most=None):
     return roster, found
 
 
-def entered(events, matches=None):
+def entered(events):
     """The matches after these events, and the reply lines of a script."""
-    matches, lines = matches or fresh(), []
+    matches, lines = fresh(), []
     for row, (reporter, game, expected, word) in enumerate(events, 5):
         m = matches[game - 1]
         refusal = m.refusal(expected, word)
         if not refusal:
             m.enter(reporter, word)
-        lines.append(
-            f"{row} refused {refusal}\n"
-            if refusal
-            else f"{row} ok {game} {m.number} {version(matches)}\n"
-        )
+        accepted = f"ok {game} {m.number} {version(matches)}"
+        lines.append(f"{row} refused {refusal}\n" if refusal else f"{row} {accepted}\n")
     return matches, "".join(lines)
 
 
@@ -480,65 +398,44 @@ class Style:
     """How the words of a command line have a screen shown."""
 
     def __init__(self, words=()):
-        self.group = words[words.index("--group") + 1] if "--group" in words else "A"
-        self.order = words[words.index("--order") + 1] if "--order" in words else "uefa"
+        named = {"--group": "A", "--order": "uefa"}
+        self.asked = {it: words[words.index(it) + 1] for it in named if it in words}
+        self.group, self.order = {**named, **self.asked}.values()
         self.edition = 0
-        self.asked = {
-            word[2:]: words[words.index(word) + 1]
-            for word in ("--group", "--order")
-            if word in words
-        }
 
     def take(self, fields):
         """Takes a row of a group; False where it is none."""
         _, group, order, edition = fields
-        number = int(edition) if re.fullmatch("[0-9]{1,5}", edition) else 65536
-        if (
-            len(group) != 1
-            or group not in "ABCDEFGH"
-            or order not in ("uefa", "away-in-tie")
-            or number > 65535
-        ):
+        edition = number(edition, 5, 0, LAST_EDITION)
+        if not re.fullmatch("[A-H]", group) or order not in ORDERS or edition is None:
             return False
-        if {"group": group, "order": order, **self.asked} != {"group": group, "order": order}:
+        named = {"--group": group, "--order": order}
+        if {**named, **self.asked} != named:
             raise Fault("error: the row of the group differs from --group or --order")
-        self.group, self.order, self.edition = group, order, number
+        self.group, self.order, self.edition = group, order, edition
         return True
 
     def screen(self, matches, roster):
         """The screen."""
         return screen(matches, roster, self.group, self.order != "uefa")
 
-    def moment(self, matches, roster):
-        """The members by which a screen in JSON stands for itself."""
-        members = {
-            "group": self.group,
-            "order": self.order,
-            "edition": self.edition,
-            "version": version(matches),
-        }
-        return {**members, "clubs": clubs_of(roster), "words": [m.word() for m in matches]}
-
     def json(self, matches, roster, row):
-        """The screen as a line of JSON."""
-        table = list(places(matches, roster, self.order != "uefa"))
-        games = [m.members(game) for game, m in enumerate(matches, 1)]
-        return {
-            "reply": "screen",
-            "row": row,
-            "in_play": in_play(matches),
-            "table": table,
-            "matches": games,
-            **self.moment(matches, roster),
-        }
+        """The members of the screen in JSON."""
+        members = {"group": self.group, "order": self.order, "edition": self.edition}
+        members |= {"version": version(matches), "in_play": in_play(matches)}
+        members |= {"clubs": clubs_of(roster), "words": [m.word() for m in matches]}
+        members["table"] = list(places(matches, roster, self.order != "uefa"))
+        members["matches"] = [m.members(game) for game, m in enumerate(matches, 1)]
+        return {"reply": "screen", "row": row, **members}
 
 
 def night(subcommand, words, text):
     """The status, the output and the errors of `ucl_night`, of a night without readings."""
+    style, of_match = Style(words), lambda fields, row: word(fields, row - 4) if row < 17 else None
     try:
         if subcommand == "show":
-            roster, given = parsed(text, word, 12)
-            return 0, Style(words).screen(matches_of(given), roster), ""
+            roster, given = parsed(text, of_match, 16)
+            return 0, style.screen(matches_of(given), roster), ""
         roster, events = parsed(text)
         stranger = next((row for row, (reporter, *_) in enumerate(events, 5) if reporter > 2), None)
         if subcommand == "night" and stranger:
@@ -546,25 +443,17 @@ def night(subcommand, words, text):
     except Fault as fault:
         return 3, "", f"{fault}\n"
     matches, replies = entered(events)
-    return (
-        0,
-        replies + sheet(matches)
-        if subcommand == "feed"
-        else "FINAL\n" + Style(words).screen(matches, roster),
-        "",
-    )
+    is_feed = subcommand == "feed"
+    output = replies + sheet(matches) if is_feed else "FINAL\n" + style.screen(matches, roster)
+    return 0, output, ""
 
 
 class Session:
     """An evening of `ucl_live` by the rules: how it answers, its clubs, and its matches once the board is open."""
 
     def __init__(self, words):
-        self.is_json, self.with_screens, self.style = (
-            "json" in words,
-            "--screens" in words,
-            Style(words),
-        )
-        self.roster, self.matches, self.begun = [], None, False
+        self.is_json, self.with_screens = "json" in words, "--screens" in words
+        self.style, self.roster, self.matches, self.begun = Style(words), [], None, False
         # The events that stand, in their order: row, reporter, match and word.
         self.events = []
 
@@ -574,11 +463,8 @@ class Session:
 
     def shown(self, row):
         """The screen."""
-        return self.told(
-            row,
-            self.style.json(self.matches, self.roster, row),
-            self.style.screen(self.matches, self.roster),
-        )
+        shown = self.matches, self.roster
+        return self.told(row, self.style.json(*shown, row), self.style.screen(*shown))
 
     def entered(self, row, said):
         """The reply to an event, and the screen where it follows."""
@@ -587,35 +473,20 @@ class Session:
         m = self.matches[game - 1]
         refusal = m.refusal(expected, word)
         if refusal:
-            return self.refused(
-                row,
-                refusal,
-                **asked,
-                **({"stands": m.members(game)} if refusal.startswith("1 ") else {}),
-            )
+            stands = {"stands": m.members(game)} if refusal.startswith("1 ") else {}
+            return self.refused(row, refusal, **asked, **stands)
         m.enter(reporter, word)
         self.events.append((row, reporter, game, word))
-        members = {
-            "reply": "ok",
-            **asked,
-            "number": m.number,
-            "version": version(self.matches),
-            "edition": self.style.edition,
-        }
-        return self.told(row, members, f"{row} ok {game} {m.number} {version(self.matches)}\n") + (
-            self.shown(row) if self.with_screens else []
-        )
+        members = {"reply": "ok", **asked, "number": m.number, "version": version(self.matches)}
+        members["edition"] = self.style.edition
+        text = f"{row} ok {game} {m.number} {version(self.matches)}\n"
+        return self.told(row, members, text) + (self.shown(row) if self.with_screens else [])
 
     def refused(self, row, refusal, **more):
         """The reply to what is refused, in JSON with these members more."""
         code, name, *found = refusal.split()
-        members = {
-            "reply": "refused",
-            "code": int(code),
-            "name": name,
-            **({"number": int(found[0])} if found else {}),
-            **more,
-        }
+        members = {"reply": "refused", "code": int(code), "name": name, **more}
+        members |= {"number": int(found[0])} if found else {}
         return self.told(row, members, f"{row} refused {refusal}\n")
 
     def beginning(self, row, fields):
@@ -651,26 +522,14 @@ class Session:
         self.style.edition, self.roster = later, roster
         self.matches, self.events, left_out = mended(self.events, without)
         lines = []
-        for number_, reporter, game, word, refusal in left_out if self.is_json else []:
+        for out, reporter, game, word, refusal in left_out if self.is_json else []:
             code, name = refusal.split()[:2]
-            members = {
-                "reply": "left-out",
-                "row": number_,
-                "reporter": reporter,
-                "match": game,
-                "event": word,
-                "code": int(code),
-                "name": name,
-            }
-            lines.append(line_of(members))
-        members = {
-            "reply": "mended",
-            "left_out": len(left_out),
-            "version": version(self.matches),
-            "edition": later,
-            **({} if without is None else {"without": without}),
-        }
-        lines += self.told(row, members, f"{row} mended {later} {version(self.matches)}\n")
+            members = {"reply": "left-out", "row": out, "reporter": reporter, "match": game}
+            lines.append(line_of({**members, "event": word, "code": int(code), "name": name}))
+        now = version(self.matches)
+        members = {"reply": "mended", "left_out": len(left_out), "version": now, "edition": later}
+        members |= {} if without is None else {"without": without}
+        lines += self.told(row, members, f"{row} mended {later} {now}\n")
         return lines + (self.shown(row) if self.with_screens else [])
 
     def answers(self, row, line):
@@ -685,39 +544,29 @@ class Session:
         if fields == ["screen", "", "", ""]:
             return self.shown(row)
         if fields == ["words", "", "", ""]:
-            return self.told(
-                row,
-                {"reply": "words", "words": [m.word() for m in self.matches]},
-                sheet(self.matches),
-            )
+            words = [m.word() for m in self.matches]
+            return self.told(row, {"reply": "words", "words": words}, sheet(self.matches))
         if fields == ["matches", "", "", ""]:
-            members = {
-                "reply": "matches",
-                "clubs": clubs_of(self.roster),
-                "matches": [m.members(game) for game, m in enumerate(self.matches, 1)],
-            }
+            games = [m.members(game) for game, m in enumerate(self.matches, 1)]
+            members = {"reply": "matches", "clubs": clubs_of(self.roster), "matches": games}
             return self.told(row, members, match_lines(self.matches, self.roster))
         said = event(fields)
+        if said is not None:
+            return self.entered(row, said)
         shown = re.match("[ -~]{0,64}", line)[0]
-        return (
-            self.refused(row, "20 bad-row", field=bad_field(fields), text=shown)
-            if said is None
-            else self.entered(row, said)
-        )
+        return self.refused(row, "20 bad-row", field=bad_field(fields), text=shown)
 
     def of(self, text):
         """The status, the output and the errors for a whole input."""
         lines = text.split("\n")
         lines = lines[:-1] if not lines[-1] else lines
         try:
-            answers = [
-                answer for row, line in enumerate(lines, 1) for answer in self.answers(row, line)
-            ]
+            answers = [self.answers(row, line) for row, line in enumerate(lines, 1)]
             if len(self.roster) < 4:
                 raise Fault(f"input refused 20: row {len(lines) + 1}")
         except Fault as fault:
             return 2 if str(fault).startswith("error") else 3, "", f"{fault}\n"
-        return 0, "".join(answers), ""
+        return 0, "".join(itertools.chain(*answers)), ""
 
 
 # ---- evenings at random
@@ -746,66 +595,42 @@ def moment_of(line):
     """The group, the order, the edition, the roster and the matches of the moment that a line tells; None where it tells none."""
     try:
         said = json.loads(line)
-        group, order, edition, words = (
-            said["group"],
-            said["order"],
-            said.get("edition", 0),
-            said["words"],
-        )
-        roster = [(it["club"], it["coefficient"]) for it in said["clubs"]]
-        is_one = (
-            group in list("ABCDEFGH")
-            and order in ("uefa", "away-in-tie")
-            and len(roster) == 4
-            and len(words) == 12
-        )
-        is_one = is_one and type(edition) is int and 0 <= edition <= 65535
-        is_one = (
-            is_one
-            and all(type(it) is str and word(["word", "1", it, ""], 1) for it in words)
-            and all(type(c) is int and c >= 0 for _, c in roster)
-        )
-        return (
-            (group, order, edition, roster, matches_of(words))
-            if is_one and not bad_slots(roster)
-            else None
-        )
+        group, order, edition = said["group"], said["order"], said.get("edition", 0)
+        words, clubs = said["words"], said["clubs"]
+        roster = [(it["club"], it["coefficient"]) for it in clubs]
+        is_one = group in [*"ABCDEFGH"] and order in ORDERS and (len(roster), len(words)) == (4, 12)
+        is_one = is_one and type(edition) is int and 0 <= edition <= LAST_EDITION
+        is_one = is_one and all(type(it) is str and word(["word", "1", it, ""], 1) for it in words)
+        is_one = is_one and all(type(it) is int and it >= 0 for _, it in roster)
+        is_one = is_one and not bad_slots(roster)
+        return (group, order, edition, roster, matches_of(words)) if is_one else None
     except (ValueError, KeyError, TypeError, RecursionError, Fault):
         return None
 
 
 def followed(words, text):
     """The status, the output and the errors of `ucl_follow`."""
-    lines = text.split("\n")[:-1]
-    told = [
-        moment_of(line)
-        if len(line.removesuffix("\r").encode(errors="surrogateescape")) <= LONGEST_FOLLOWED
-        else None
-        for line in lines
-    ]
-    asked = lambda option: words[words.index(option) + 1] if option in words else None
-    output, newest, shown, errors, others = "", None, 0, "", set()
-    title = [asked("--group"), asked("--order")]
+    lines, output, errors = text.split("\n")[:-1], [], ""
+    asked, newest, others = Style(words).asked, None, set()
+    title = [asked.get("--group"), asked.get("--order")]
     age = lambda moment: (moment[2], version(moment[4]))
-    for row, moment in enumerate(told, 1):
+    for row, line in enumerate(lines, 1):
+        length = len(line.removesuffix("\r").encode(errors="surrogateescape"))
+        moment = moment_of(line) if length <= LONGEST_FOLLOWED else None
         if moment and not all(it in (None, said) for it, said in zip(title, moment)):
             if moment[:2] not in others:
-                errors += f"line {row}: group {moment[0]}, order {moment[1]}, is passed over\n"
+                errors += "line {}: group {}, order {}, is passed over\n".format(row, *moment[:2])
             others.add(moment[:2])
         elif moment and (newest is None or age(moment) > age(newest)):
-            title = moment[:2]
-            newest, shown = moment, shown + 1
+            title, newest = moment[:2], moment
             group, order, edition, roster, matches = moment
             style = Style(["--group", group, "--order", order])
             style.edition = edition
-            text = (
-                match_lines(matches, roster)
-                if "--matches" in words
-                else style.screen(matches, roster)
-            )
-            output += line_of(style.json(matches, roster, row)) if "json" in words else text
-    return (
-        0,
-        output,
-        errors + f"{len(lines)} lines, {shown} shown, {len(lines) - shown} passed over\n",
-    )
+            if "json" in words:
+                output.append(line_of(style.json(matches, roster, row)))
+            elif "--matches" in words:
+                output.append(match_lines(matches, roster))
+            else:
+                output.append(style.screen(matches, roster))
+    counts = len(lines), len(output), len(lines) - len(output)
+    return 0, "".join(output), errors + "{} lines, {} shown, {} passed over\n".format(*counts)

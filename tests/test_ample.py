@@ -6,19 +6,18 @@ What a call does at a length or a number that no test has come to is not seen he
 import ctypes as c
 import json
 import random
+import re
 
 import model
 import pytest
-from conftest import EXAMPLES, text_of
 from hypothesis import example, given, settings
 from hypothesis import strategies as st
 from test_library import board, library  # noqa: F401, fixtures
 
 LARGEST, MOST_READINGS = 4_194_304, 1000
 # Bytes of an input: near the powers of two, at which lists grow and reads end, and all over.
-LENGTHS = st.integers(200, LARGEST) | st.builds(
-    lambda power, more: (1 << power) + more, st.integers(8, 21), st.integers(-2, 2)
-)
+POWERS = st.integers(8, 21).map(lambda power: 1 << power)
+LENGTHS = st.integers(200, LARGEST) | st.tuples(POWERS, st.integers(-2, 2)).map(sum)
 FEW = settings(max_examples=settings.default.max_examples // 5)
 pytestmark = pytest.mark.limit(300)
 
@@ -36,6 +35,8 @@ def busy_night():
 
 
 NIGHT = busy_night()
+# The rows that the rules take: each match has the number 4,094.
+FULL = NIGHT.split("1,2,1,kickoff")[0]
 
 
 def cut_to(length):
@@ -45,48 +46,25 @@ def cut_to(length):
 
 def test_screen_of_each_version(board):
     """The screen and its line of JSON, of boards that have each version that there is."""
-    clubs, made, length, at = (
-        board.clubs_of(model.ROSTER),
-        c.create_string_buffer(board.JSON_ROOM),
-        c.c_size_t(),
-        c.c_uint32(),
-    )
-    words = (c.c_uint64 * 12)(*[board.SCHEDULED_WORD] * 12)
+    made, length, at = c.create_string_buffer(board.JSON_ROOM), c.c_size_t(), c.c_uint32()
+    words, clubs = (c.c_uint64 * 12)(*[board.SCHEDULED_WORD] * 12), board.clubs_of(model.ROSTER)
     for version in range(12 * 4095 + 1):
         game = max(version - 1, 0) // 4095
         number = version - 4095 * game
         if version and number:
             words[game] = 0x2001 << 48 | (2 if number > 1 else 1) << 12 | number
-        for call, first, text in (board.screen, (), f"GROUP A v{version:05d} "), (
-            board.screen_json,
-            (version,),
-            '{"clubs":',
-        ):
-            assert (
-                call(
-                    *first,
-                    words,
-                    12,
-                    clubs,
-                    4,
-                    ord("A"),
-                    version % 2,
-                    made,
-                    board.JSON_ROOM,
-                    length,
-                    at,
-                )
-                == 0
-            ), version
-            assert made.raw.startswith(text.encode())
+        given = words, 12, clubs, 4, ord("A"), version % 2, made, board.JSON_ROOM, length, at
+        assert board.screen(*given) == 0, version
+        assert made.raw.startswith(f"GROUP A v{version:05d} ".encode())
+        assert board.screen_json(version, *given) == 0, version
+        assert made.raw.startswith(b'{"clubs":')
 
 
 @FEW
 @given(length=LENGTHS)
 def test_script_of_any_length(board, length):
-    assert len(board.play(NIGHT[:length].rpartition("\n")[0].encode())[2]) == max(
-        cut_to(length).count("\n") - 4, 0
-    )
+    replies = board.play(NIGHT[:length].rpartition("\n")[0].encode())[2]
+    assert len(replies) == max(cut_to(length).count("\n") - 4, 0)
 
 
 def test_beginnings_of_a_script(program, run):
@@ -112,33 +90,19 @@ def test_night_of_any_length(run, length, readings):
 @pytest.mark.limit(900)
 def test_nights_of_each_group_and_number_of_readings(run):
     """Each ends as it has to, whatever is against it, and its gate sees all calls and screens; also at versions from the first to the last."""
-    seed, rows = random.randrange(1 << 32), NIGHT.splitlines(True)[: 4 + 12 * 4094]
-    text = "".join(rows).replace("\n2,", "\n1,")
+    seed, text = random.randrange(1 << 32), FULL.replace("\n2,", "\n1,")
     ran = run("ucl_hostile", "nights", str(seed), str(MOST_READINGS), input=text)
     assert ran == (0, "all nights are right\n", ""), f"seed {seed}"
 
 
 @pytest.mark.parametrize(
     "call, text",
-    [
-        ("night_run_in_a_cell", NIGHT),
-        ("night_run", NIGHT),
-        ("run_steps", "x" * 20_000),
-        ("read_night", NIGHT),
-    ],
+    [("night_run_in_a_cell", NIGHT), ("run_steps", "x" * 20_000)],
     ids=lambda it: it[:20],
 )
 def test_call_with_its_largest_input(program, run, call, text):
     ran = run("ucl_hostile", "refused", call, input=text)
     assert (ran.status, ran.errors) == (0, "") and ran.output.startswith("first None\nkept true\n")
-
-
-def test_many_boards(board):
-    """Each is let go when the next is open."""
-    for _ in range(20_000):
-        first = board.Pass.open()
-        first.split()
-        first.enlist()
 
 
 EVENING = model.CLUBS + "1,1,0,kickoff\n"
@@ -168,35 +132,35 @@ def test_mends_up_to_a_full_board(run, words):
                 rows.append(f"mend,,{edition},\n")
                 wanted.append((len(rows) + 3, edition, version))
     ran = run("ucl_live", *words, input="".join(rows))
-    lines = [line for line in ran.output.splitlines() if "mended" in line]
     if words:
-        parts = [[json.loads(line)[it] for it in ("row", "edition", "version")] for line in lines]
+        lines = map(json.loads, re.findall(r".*mended.*", ran.output))
+        told = [(it["row"], it["edition"], it["version"]) for it in lines]
     else:
-        parts = [line.replace(" mended", "").split() for line in lines]
-    told = [tuple(map(int, it)) for it in parts]
+        lines = re.findall(r"^(\d+) mended (\d+) (\d+)$", ran.output, re.M)
+        told = [tuple(map(int, line)) for line in lines]
     assert (ran.status, ran.errors, told) == (0, "", wanted)
 
 
-@pytest.mark.parametrize("words", [[], ["--format", "json"], ["--matches"]], ids=" ".join)
-def test_long_following(run, words):
-    """Of many moments, and of lines of each length that is read."""
-    lines = text_of(EXAMPLES / "followed.jsonl").splitlines(True)
-    odd = ["x" * length + "\n" for length in range(4_200)]
-    ran = run("ucl_follow", *words, input="".join((lines + odd) * 4 + lines * 2_000))
-    assert ran.status == 0 and "memory" not in ran.errors
+def test_kick_off_is_left_out_of_a_full_board(run):
+    """And with it all events of its match; the other matches keep theirs."""
+    ran = run("ucl_live", "--format", "json", input=FULL + "mend,5,,\n")
+    *left_out, members = map(json.loads, ran.output.splitlines()[-4_094:])
+    told = [(it["reply"], it["row"], it["code"], it["name"]) for it in left_out]
+    assert told == [("left-out", row, 3, "not-started") for row in range(17, 4 + 12 * 4_094, 12)]
+    assert (members["left_out"], members["version"]) == (4_093, 11 * 4_094)
 
 
 @pytest.fixture(scope="module")
 def screens(run):
     """The screens in JSON of an evening of all events that matches have room for."""
-    evening = run(
-        "ucl_live", "--format", "json", "--screens", input=NIGHT.split("1,2,1,kickoff")[0]
-    )
+    evening = run("ucl_live", "--format", "json", "--screens", input=FULL)
     return [line for line in evening.output.splitlines(True) if '"reply":"screen"' in line]
 
 
 @pytest.mark.parametrize("words", [[], ["--format", "json"], ["--matches"]], ids=" ".join)
 def test_following_of_each_version(run, screens, words):
-    """Each is shown."""
-    ran = run("ucl_follow", *words, input="".join(screens))
-    assert ran.status == 0 and ran.errors == "49128 lines, 49128 shown, 0 passed over\n"
+    """Each is shown; of lines of each length that is read, none is."""
+    odd = ["x" * length + "\n" for length in range(4_200)]
+    ran = run("ucl_follow", *words, input="".join(screens + odd * 4))
+    told = "65928 lines, 49128 shown, 16800 passed over\n"
+    assert (ran.status, ran.errors) == (0, told)

@@ -62,11 +62,8 @@ def faulty(subcommand, options):
                 # Two strokes alone end the options of a line.
                 if word[:end] != "--":
                     yield f"{word!r} cut to {word[:end]!r}", [*before, word[:end], *later]
-            yield f"{word!r} with another case", [
-                *before,
-                word.swapcase() if not word.isdigit() else word + "x",
-                *later,
-            ]
+            other = word + "x" if word.isdigit() else word.swapcase()
+            yield f"{word!r} with another case", [*before, other, *later]
             yield f"{word!r} with a byte more", [*before, word.encode() + b"\xff", *later]
             yield f"{word!r} with a letter more", [*before, word + "s", *later]
     for option in options:

@@ -23,19 +23,8 @@ def refuses(tmp_path_factory):
     """The library that refuses requests."""
     conftest.needs("cc")
     path = tmp_path_factory.mktemp("refuses") / "refuse_nth.so"
-    ended = conftest.command(
-        [
-            "cc",
-            "-shared",
-            "-fPIC",
-            "-O1",
-            "-Wall",
-            "-Werror",
-            "-o",
-            path,
-            TOP / "tests/refuse_nth.c",
-        ]
-    )
+    options = ["-shared", "-fPIC", "-O1", "-Wall", "-Werror", "-o", path]
+    ended = conftest.command(["cc", *options, TOP / "tests/refuse_nth.c"])
     assert ended.status == 0, ended.errors
     return path
 
@@ -114,26 +103,17 @@ def test_a_call_of_the_library(program, refuses, call, mode):
     assert any(run.output in allowed for run, _ in met)
 
 
-def test_a_night_with_a_row_that_is_off_duty_asks_for_nothing(program, refuses):
-    met, whole = swept(
-        refuses,
-        "all",
-        "call",
-        [program("ucl_hostile"), "refused", "night_run"],
-        text_of(f"{H2H}.csv", "3,1,0,kickoff\n"),
-    )
-    assert met == [] and "input refused 25: row 45" in whole.errors
-
-
-def test_a_night_on_a_full_board_asks_for_nothing(program, refuses):
-    met, whole = swept(
-        refuses,
-        "all",
-        "call",
-        [program("ucl_hostile"), "refused", "night_run_on_a_full_board"],
-        text_of(f"{H2H}.csv"),
-    )
-    assert met == [] and whole.output == "first Some(TooManyReporters)\nkept true\n"
+@pytest.mark.parametrize(
+    "call, row, told",
+    [
+        ("night_run", "3,1,0,kickoff\n", "input refused 25: row 45"),
+        ("night_run_on_a_full_board", "", "first Some(TooManyReporters)\nkept true\n"),
+    ],
+)
+def test_a_night_that_is_refused_asks_for_nothing(program, refuses, call, row, told):
+    words, text = [program("ucl_hostile"), "refused", call], text_of(f"{H2H}.csv", row)
+    met, whole = swept(refuses, "all", "call", words, text)
+    assert met == [] and told in whole.output + whole.errors
 
 
 @pytest.mark.parametrize(
@@ -153,13 +133,8 @@ def test_a_thread_that_did_not_start_is_told_before_a_screen_without_memory(prog
 
 def test_a_night_of_the_program_tells_which_of_both_it_lacks(program, refuses):
     """Of the requests of its first thread the last one is for the closing screen, and some before are for threads."""
-    alone, _ = swept(
-        refuses,
-        "main",
-        "start",
-        [program("ucl_night"), "night", "--readings", "3"],
-        text_of(f"{H2H}.csv"),
-    )
+    words = [program("ucl_night"), "night", "--readings", "3"]
+    alone, _ = swept(refuses, "main", "start", words, text_of(f"{H2H}.csv"))
     faults = [run.errors for run, _ in alone]
     assert faults.count("no thread 27\n") >= 4 and faults[-1] == "out of memory 23\n"
 
@@ -179,21 +154,16 @@ MORE_ROWS = (
 # clubs ask for memory, the screen, the words, the matches, a screen after an accepted event, and all in JSON. Other lines ask for none, also in quotes; a follower asks at each.
 RUNS = {
     "ucl_night --help": ([], 0, [0]),
-    "ucl_night feed": (["two_matches.csv"], 0, [0]),
-    "ucl_night show --group A": ([SHEET], 0, [0]),
-    "ucl_night show": (["two_matches_sheet.csv"], 0, [0]),
-    "ucl_night show --order away-in-tie": ([SHEET], 0, [0]),
     "ucl_night show --order none": ([], 2, [0]),
+    "ucl_night feed": (["two_matches.csv"], 0, [0]),
+    "ucl_night show --order away-in-tie": ([SHEET], 0, [0]),
     "ucl_night night --group A --readings 0": ([f"{H2H}.csv"], 0, [0]),
-    "ucl_live --help": ([], 0, [0]),
-    "ucl_live --order none": ([], 2, [0]),
     "ucl_live": (ROWS, 0, [0, 10, 16, 28]),
     "ucl_live --order uefa": (BAD_ROWS, 0, [0]),
     "ucl_live --screens": (ROWS, 0, [0, 7, 16, 23, 30, 37, 45, 52, 58, 70]),
     "ucl_live --format json": (ROWS, 0, range(13)),
     "ucl_live --format text": (MORE_ROWS, 0, [0, 5]),
     "ucl_live --format json --screens": (MORE_ROWS, 0, [0, 2, 4, 5, 7, 8, 9]),
-    "ucl_follow --help": ([], 0, [0]),
     "ucl_follow --matches": (["followed.jsonl"], 0, [0, 12, 24]),
     "ucl_follow --format json": (["followed.jsonl"], 0, range(3)),
 }

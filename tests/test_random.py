@@ -25,38 +25,32 @@ def mostly(strategy, other, parts=20):
     return st.integers(1, parts).flatmap(lambda at: other if at == parts else strategy)
 
 
+GOOD = st.sampled_from([0, 60_000, 60_000, 999_999])
+
+
 @st.composite
 def club_rows(draw):
     """Four club rows, whose names stand in quotes, and of which few are bad."""
-    names = draw(st.lists(mostly(NAMES, ODD_NAMES, 100), min_size=4, max_size=4))
-    coefficients = draw(
-        st.lists(
-            mostly(st.sampled_from([0, 60_000, 60_000, 999_999]), st.just(1_000_000), 100),
-            min_size=4,
-            max_size=4,
-        )
-    )
-    quoted = ['"' + name.replace('"', '""') + '"' for name in names]
-    return [
-        f"club,{slot},{name},{coefficient}\n"
-        for slot, name, coefficient in zip(range(1, 5), quoted, coefficients)
-    ]
+    rows = []
+    for slot in range(1, 5):
+        name = draw(mostly(NAMES, ODD_NAMES, 100)).replace('"', '""')
+        rows.append(f'club,{slot},"{name}",{draw(mostly(GOOD, st.just(1_000_000), 100))}\n')
+    return rows
 
 
 # The states, numbers, goals and yellows, and expulsions of matches: level at the end of a group, in the midst of it, and near all limits.
 BOARDS = {
     "ended": ([FINISHED], [2, 9], [0, 1, 2], [0, 1]),
     "mixed": ([SCHEDULED, IN_PLAY, FINISHED], [2, 9], [0, 1, 2], [0, 1]),
+    "limits": ([IN_PLAY, IN_PLAY, FINISHED], [9, 4093, 4094], [0, 62, 63], [0, 30, 31]),
 }
-BOARDS["limits"] = ([IN_PLAY, IN_PLAY, FINISHED], [9, 4093, 4094], [0, 62, 63], [0, 30, 31])
 
 
 @st.composite
 def matches(draw):
     """Twelve matches that could be."""
-    states, numbers, goals, expulsions = map(
-        st.sampled_from, BOARDS[draw(st.sampled_from(sorted(BOARDS)))]
-    )
+    board = BOARDS[draw(st.sampled_from(sorted(BOARDS)))]
+    states, numbers, goals, expulsions = map(st.sampled_from, board)
     found = fresh()
     for m in found:
         m.state = draw(states)
@@ -75,17 +69,9 @@ def word_rows(draw):
     if draw(st.integers(1, 6)) == 6:
         at, bit = draw(st.integers(0, 11)), draw(st.integers(0, 63))
         word = rows[at].split(",")[2]
-        other = st.sampled_from(
-            [
-                f"{int(word, 16) ^ 1 << bit:016X}",
-                "f" * 16,
-                "x" * 16,
-                word[1:],
-                word + ",",
-                "," + word,
-            ]
-        )
-        rows[at] = rows[at].replace(word, draw(other))
+        flipped = f"{int(word, 16) ^ 1 << bit:016X}"
+        others = [flipped, "f" * 16, "x" * 16, word[1:], word + ",", "," + word]
+        rows[at] = rows[at].replace(word, draw(st.sampled_from(others)))
     return rows
 
 
@@ -103,10 +89,9 @@ def event_rows(picks):
     for game, pick, odd, reporter in picks:
         m = found[game - 1]
         words = WORDS if odd == 12 else LIKELY[m.state]
-        word, expected = (
-            words[pick % len(words)],
-            pick * 500 if odd == 11 and pick % 2 else pick if odd == 11 else m.number,
-        )
+        word, expected = words[pick % len(words)], m.number
+        if odd == 11:
+            expected = pick * (500 if pick % 2 else 1)
         rows.append(f"{reporter},{game},{expected},{word}\n")
         if m.refusal(expected, word) is None:
             m.enter(reporter, word)
@@ -136,6 +121,9 @@ def fed(path, words, text, piece):
         return ran._replace(output=decoded(output.read()))
 
 
+MORE_ROWS = ["bad\n", "\n", "1,1,0,kickoff\n", '"', "1,1,00000,reopen\n", "word,1,,\n"]
+
+
 @given(st.data())
 def test_scripts_and_sheets(program, data):
     """`feed`, `show`, and `night`, the last with its reporters by matches, so that its end does not depend on who is faster."""
@@ -146,81 +134,47 @@ def test_scripts_and_sheets(program, data):
     ]
     rows = draw(club_rows()) + (draw(word_rows()) if word == "show" else event_rows(picks))
     if draw(st.integers(1, 6)) == 6:
-        rows.insert(
-            draw(st.integers(0, len(rows))),
-            draw(
-                st.sampled_from(
-                    ["bad\n", "\n", "1,1,0,kickoff\n", '"', "1,1,00000,reopen\n", "word,1,,\n"]
-                )
-            ),
-        )
-    text, words = cut(
-        draw, "".join(row[:-1] + draw(ENDS) for row in rows)
-    ), [] if word == "feed" else draw(GROUPS) + draw(ORDERS)
+        rows.insert(draw(st.integers(0, len(rows))), draw(st.sampled_from(MORE_ROWS)))
+    text = cut(draw, "".join(row[:-1] + draw(ENDS) for row in rows))
+    words = [] if word == "feed" else draw(GROUPS) + draw(ORDERS)
     assert fed(program("ucl_night"), [word, *words], text, draw(PIECES)) == night(word, words, text)
 
 
-ODD_ROWS = [
-    "screen,,,",
-    "words,,,",
-    "matches,,,",
-    "",
-    "\r",
-    "x",
-    "1,1,0",
-    "screen,1,,",
-    "y" * 257,
-    "z" * 700,
-    "word,1,,",
-    '1,1,0,"kickoff',
-    'word,1,2000000000000000,"',
-    "1,13,0,goal",
-    '1,1,"0',
-    "\ufeff1,1,0,kickoff",
-]
-ODD_ROWS += [
-    f"group,{title}"
-    for title in ("A,uefa,0", "A,uefa,1", "A,uefa,2", "B,uefa,1", "H,uefa,1", "A,away-in-tie,1")
-] + ["club,2,Echo,5", "club,3,,5"]
 MENDS = [
-    "mend,5,,",
-    "mend,6,,",
-    "mend,7,,",
-    '"mend","09","",""',
-    "mend,12,,",
-    "mend,,3,",
-    "mend,,65535,",
-    'club,2,Real Madrid,"95000"',
+    *("mend,5,,", "mend,6,,", "mend,7,,", '"mend","09","",""', "mend,12,,", "mend,,3,"),
+    *("mend,,65535,", 'club,2,Real Madrid,"95000"'),
 ]
-ODD_ROWS += [*MENDS, "mend,0,,"]
+TITLES = "A,uefa,0 A,uefa,1 A,uefa,2 B,uefa,1 H,uefa,1 A,away-in-tie,1".split()
+ODD_ROWS = [
+    *("screen,,,", "words,,,", "matches,,,", "", "\r", "x", "1,1,0", "screen,1,,", "y" * 257),
+    *("z" * 700, "word,1,,", '1,1,0,"kickoff', 'word,1,2000000000000000,"', "1,13,0,goal"),
+    *('1,1,"0', "\ufeff1,1,0,kickoff", "club,2,Echo,5", "club,3,,5", *MENDS, "mend,0,,"),
+    *(f"group,{title}" for title in TITLES),
+]
+AT, LINE_ENDS = st.integers(0, 70), st.sampled_from(["\n", "\n", "\r\n"])
+SCREENS = st.sampled_from([[], ["--screens"]])
+FORMATS = st.sampled_from([[], ["--format", "json"], ["--format", "text"]])
 
 
 @given(st.data())
 def test_evenings(program, data):
     """`ucl_live`, in all its forms, of one edition or more."""
     draw = data.draw
-    words = (
-        draw(st.sampled_from([[], ["--screens"]]))
-        + draw(st.sampled_from([[], ["--format", "json"], ["--format", "text"]]))
-        + draw(GROUPS)
-        + draw(ORDERS)
-    )
+    words = draw(SCREENS) + draw(FORMATS) + draw(GROUPS) + draw(ORDERS)
     rows = draw(club_rows()) + event_rows(draw(PICKS))
-    for odd, at in draw(
-        st.lists(st.tuples(st.sampled_from(ODD_ROWS), st.integers(0, 70)), max_size=6)
-    ):
+    for odd, at in draw(st.lists(st.tuples(st.sampled_from(ODD_ROWS), AT), max_size=6)):
         rows.insert(min(max(at, 4) if at else 0, len(rows)), odd + "\n")
-    for at, length in draw(
-        st.lists(st.tuples(st.integers(0, 70), st.sampled_from([1, 255, 256, 257])), max_size=3)
-    ):
+    lengths = st.sampled_from([1, 255, 256, 257])
+    for at, length in draw(st.lists(st.tuples(AT, lengths), max_size=3)):
         if at < len(rows) and len(rows[at]) > 1:
             rows[at] = "\r" * (length - len(encoded(rows[at])) + 1) + rows[at]
-    text = cut(
-        draw,
-        "\ufeff" * draw(st.booleans())
-        + "".join(row[:-1] + draw(st.sampled_from(["\n", "\n", "\r\n"])) for row in rows),
-    )
+    mark = "\ufeff" * draw(st.booleans())
+    text = cut(draw, mark + "".join(row[:-1] + draw(LINE_ENDS) for row in rows))
     assert fed(program("ucl_live"), words, text, draw(PIECES)) == Session(words).of(text)
+
+
+TAILS = st.sampled_from(["", "\n", "}\n", " \r\n"])
+SHAPES = st.sampled_from([[], ["--format", "json"], ["--matches"]])
 
 
 @given(st.data())
@@ -231,40 +185,24 @@ def test_followers(program, data):
 
     def evening():
         rows = event_rows(draw(PICKS))
-        for mend, at in draw(
-            st.lists(st.tuples(st.sampled_from(MENDS), st.integers(0, 70)), max_size=4)
-        ):
+        for mend, at in draw(st.lists(st.tuples(st.sampled_from(MENDS), AT), max_size=4)):
             rows.insert(min(at, len(rows)), mend + "\n")
-        return (
-            Session(words + draw(GROUPS) + draw(ORDERS))
-            .of(CLUBS + "screen,,,\n" + "".join(rows))[1]
-            .splitlines(True)
-        )
+        session = Session(words + draw(GROUPS) + draw(ORDERS))
+        return session.of(CLUBS + "screen,,,\n" + "".join(rows))[1].splitlines(True)
 
     lines = evening() + evening()
     some = [lines[at % len(lines)] for at in draw(st.lists(st.integers(0, 120), max_size=40))]
-    for at, end, more in draw(
-        st.lists(
-            st.tuples(
-                st.integers(0, 40),
-                st.integers(0, 1200),
-                st.sampled_from(["", "\n", "}\n", " \r\n"]),
-            ),
-            max_size=5,
-        )
-    ):
+    cuts = st.tuples(st.integers(0, 40), st.integers(0, 1200), TAILS)
+    for at, end, more in draw(st.lists(cuts, max_size=5)):
         if at < len(some):
             some[at] = some[at].rstrip("\n")[:end] + more
-    words, text = draw(st.sampled_from([[], ["--format", "json"], ["--matches"]])) + draw(
-        GROUPS
-    ) + draw(ORDERS), "".join(some)
+    words, text = draw(SHAPES) + draw(GROUPS) + draw(ORDERS), "".join(some)
     assert fed(program("ucl_follow"), words, text, draw(PIECES)) == followed(words, text)
 
 
 # 20,000 bytes in lines of several lengths, none of which is a row or a moment.
-OTHERS = "".join("x" * random.Random(0).choice([1, 20, 250, 300]) + "\n" for _ in range(400))[
-    -20_000:
-]
+LENGTHS = random.Random(0).choices([1, 20, 250, 300], k=400)
+OTHERS = "".join("x" * length + "\n" for length in LENGTHS)[-20_000:]
 
 
 def rows_of_sizes(sizes):
@@ -272,9 +210,9 @@ def rows_of_sizes(sizes):
     text, row = CLUBS, 5
     for size in sizes:
         lines = OTHERS[-max(2, size) :].splitlines(True)
-        yield size, text + "".join(lines), "".join(
-            f"{row + at} refused 20 bad-row\n" for at, line in enumerate(lines) if line != "\n"
-        )
+        numbers = [row + at for at, line in enumerate(lines) if line != "\n"]
+        answer = "".join(f"{number} refused 20 bad-row\n" for number in numbers)
+        yield size, text + "".join(lines), answer
         text, row = "", row + len(lines)
 
 
