@@ -112,6 +112,26 @@ test_inputs_that_are_taken = tabled(
     }
 )
 
+
+@pytest.mark.parametrize("ends", ["uefa", "away-in-tie"])
+@pytest.mark.parametrize("letter", "ABCDEFGH")
+def test_each_group_and_order(run, letter, ends):
+    """A board on which the orders differ, under each letter: asked for, or in the first row."""
+    closing = AWAY_IN_TIE if ends == "away-in-tie" else example("away_goals_night.expected")
+    closing = closing.replace("GROUP A", f"GROUP {letter}")
+    screen, words = closing.removeprefix("FINAL\n"), ("--group", letter, "--order", ends)
+    told = run("ucl_night", "feed", input=AWAY).output.splitlines(True)[-12:]
+    sheet = "".join(AWAY.splitlines(True)[:4] + told)
+    assert run("ucl_night", "show", *words, input=sheet) == (0, screen, "")
+    assert run("ucl_night", "night", *words, input=AWAY) == (0, closing, "")
+    evening = f"{AWAY}screen,,,\n"
+    assert run("ucl_live", *words, input=evening).output.endswith(f"\n{screen}")
+    titled = f"group,{letter},{ends},1\n{evening}"
+    assert run("ucl_live", input=titled).output.endswith(f"\n{screen}")
+    line = run("ucl_live", "--format", "json", input=titled).output.splitlines(True)[-1]
+    assert run("ucl_follow", *words, input=line).output == screen
+
+
 # ---- words, helps, versions
 
 CLUB_ROW, EVENT_ROW, WORD_ROW = (
