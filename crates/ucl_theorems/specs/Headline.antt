@@ -74,8 +74,8 @@ BoardsHaveOneHistory rule = (state : State Entry View) → rule state → IsOneH
 abbrev pub BeganSince : State Entry View → ℕ → CompletedCall → Type 0
 BeganSince state seat c = (pass : View) → get_elem? state.views seat ≡ some pass → length pass.log ≤ c.first_index
 
--- Call a precedes call b in real time: a was completed in a state, with this log, and b began in that state or later, and was completed in
--- a later one. The passes, and the numbers of the calls among theirs, may be any.
+-- Call a precedes call b: a was completed in a state, with this log, and b began in that state or later, and was completed in a later one.
+-- The passes, and the numbers of the calls among theirs, may be any.
 pub record Precedes (state : State Entry View) (log later : Log) (a b : CompletedCall) : Type 0 where
   pub of_a : ℕ × ℕ
   pub of_b : ℕ × ℕ
@@ -83,9 +83,9 @@ pub record Precedes (state : State Entry View) (log later : Log) (a b : Complete
   pub completes : IsCompletedCall later of_b.0 of_b.1 b
   pub began : BeganSince state of_b.0 b
 
--- The log of a state is a prefix of the log of a later one, and each completed call is the same call there. If call a precedes call b
--- in real time, the last step of a comes before the first step of b in the log, and b has seen a: no reading is stale. And none is torn: if
--- b was accepted, each call of the later log that has seen b has seen a.
+-- The log of a state is a prefix of the log of a later one, and each completed call is the same call there. If call a precedes call
+-- b, the last step of a comes before the first step of b in the log, and b has seen a: no reading is stale. And none is torn: if b was
+-- accepted, each call of the later log that has seen b has seen a.
 pub record LogGoesOn (state : State Entry View) (log later : Log) : Type 0 where
   pub begins : IsPrefix log later
   pub calls : (seat k : ℕ) (c : CompletedCall) → IsCompletedCall log seat k c → IsCompletedCall later seat k c
