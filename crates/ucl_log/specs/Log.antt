@@ -1,5 +1,5 @@
 -- The log of boards that threads share: all atomic steps, oldest first, but for those that ignore what they find: split, and notes joined.
--- Both boards have one: the board of words, whose log is a run of the machine of `ucl_steps`, and the cell board, which does not use it.
+-- Both boards have one: the board of words, whose log is a run of the machine of `ucl_steps`, and the cell board, whose log is no such run.
 -- An access is a load or a compare-and-exchange of one match word. A step is any atomic step of a pass, and its action is what it did.
 -- There are two clocks: `index` is the place of a step in the log, `length` is how many entries the history has just before it.
 use Rattle.std.specs.Prelude.{◌≡◌, ℕ, ◌+◌, ◌==◌, ◌<◌, ◌≤◌, Bool, List, [], ◌∷◌, All, map, filter, length, Option, Some, None}

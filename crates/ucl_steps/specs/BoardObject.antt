@@ -68,6 +68,6 @@ pub record HasLinearizableCalls (log : Log) : Type 0 where
   pub order : (seat other k l : ℕ) (a b : CompletedCall) → (is_a : IsCompletedCall log seat k a) → IsCompletedCall log other l b
       → ((completed seat k a is_a).answered < invoked other b) ↔ (a.last_index < b.first_index)
 
--- each log of steps that the protocol lets come one after another has linearizable calls
+-- each consistent log that follows the protocol has linearizable calls
 abbrev pub CallsAreLinearizable : Type 0
 CallsAreLinearizable = (log : Log) → IsConsistentLog log → FollowsProtocol log → HasLinearizableCalls log

@@ -38,7 +38,8 @@ abbrev pub is_pending : {Call Reply : Type 0} → ℕ → List (HistoryEvent Cal
 is_pending {Call} {Reply} process history = fold
     (λ (pending : Bool) (event : HistoryEvent Call Reply). if process_of event == process then not (is_response event) else pending) false history
 
--- each process makes one call after another: a response comes if its process has a pending call, an invocation if it has none
+-- each process makes one call after another: a response comes only if its process has a pending call, an invocation only if it
+-- has none
 abbrev pub IsWellFormed : {Call Reply : Type 0} → List (HistoryEvent Call Reply) → Type 0
 IsWellFormed {Call} {Reply} history = (place : ℕ) (event : HistoryEvent Call Reply) → slice_get history place ≡ Some event
     → is_pending (process_of event) (take place history) ≡ is_response event

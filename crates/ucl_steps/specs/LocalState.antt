@@ -24,7 +24,7 @@ pub record CompletedCall : Type 0 where
   pub last_index : ℕ
 
 -- the local state of a pass: its number (0 for a reader), its completed calls, oldest first, what it holds of its pending call (NoCall if
--- there is none), and the index in the log of the first step of its latest call
+-- there is none), and, if a call is pending, the index in the log of its first step
 pub record LocalState : Type 0 where
   pub number : ℕ
   pub calls : List CompletedCall
@@ -42,7 +42,7 @@ call_asked (Holding event old new) action = Event event
 call_asked held action = Reading
 
 -- the outcome of this action of a pass with this number that holds this, if the history has this length: the call goes on, and what the
--- pass then holds (GoesOn), or the reply to the call (Answers). A step that is none of its call's next ones leaves what is held
+-- pass then holds (GoesOn), or the reply to the call (Answers). Any other step but a Look leaves what is held
 abbrev pub outcome : ℕ → Pending → Action → ℕ → Outcome
 outcome number held (Match (Look event) game found) length = look_outcome number event found
 outcome number (Holding event old new) (Match Swap game found) length = swap_outcome old new found

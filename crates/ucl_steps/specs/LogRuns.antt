@@ -79,7 +79,7 @@ pub record LeadsToLog (readers : ℕ) (log : Log) : Type 0 where
   pub each : (seat : ℕ) → seat < readers
       → HoldsAs (local_at seat log).held (held_by state.callers (caller_for seat (local_at seat log).number))
 
--- each log that follows the protocol, with seats below `readers`, is a run of the machine with so many readers
+-- each consistent log that follows the protocol, with seats below `readers`, is a run of the machine with so many readers
 abbrev pub LogsAreRuns : Type 0
 LogsAreRuns = (readers : ℕ) (log : Log) → IsConsistentLog log → FollowsProtocol log
     → All (λ (logged : LoggedStep). logged.seat < readers) log → LeadsToLog readers log

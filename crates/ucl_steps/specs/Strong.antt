@@ -1,4 +1,4 @@
--- Strong linearizability of logs (Linearizability.antt): when a log grows longer, reports keep their places, but readings may move.
+-- Strong linearizability of logs (Linearizability.antt): when a log grows longer, reports keep their order, but readings may move among them.
 -- If only the writes are fixed, here the reports, it is write strong-linearizability (Hadzilacos, Hu and Toueg 2021).
 use Rattle.std.specs.Prelude.{ℕ, Bool, true, false, List}
 use Rattle.ucl_log.specs.Log.{Log, IsConsistentLog}
@@ -15,8 +15,8 @@ abbrev pub is_report : Call → Bool
 is_report (Event event) = true
 is_report Reading = false
 
--- `linearize` gives each log that follows the protocol a linearization of its calls, and a longer log one that leaves the calls that pass
--- the test `fixed` as they are, and in their order, and has its own after them
+-- `linearize` gives each consistent log that follows the protocol a linearization of its calls, and a longer log one that leaves the calls
+-- that pass the test `fixed` as they are, and in their order, and has its own after them
 abbrev pub IsPrefixPreservingOnLogs : (Call → Bool) → (Log → List (Operation (ℕ × Call) Reply)) → Type 0
 IsPrefixPreservingOnLogs fixed linearize =
     IsPrefixPreserving (λ (log : Log). IsConsistentLog log × FollowsProtocol log) call_events board_object (λ (asked : ℕ × Call). fixed asked.1) linearize

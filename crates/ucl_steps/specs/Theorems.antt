@@ -17,7 +17,7 @@ use Rattle.ucl_log.specs.Log.{Access}
 use Rattle.ucl_steps.specs.Trails.{Follows, ReportAccesses, decided_at, max_tries, max_loads, IsUnclean, accesses_of, ReadingAccesses}
 
 -- the calls of every list of enabled steps of any reporters and readers, cut off anywhere, are linearizable, in the order of their points.
--- A call that is pending at the end is given a response, if it has its reply by then, or counts for nothing
+-- A call that is pending at the end is given its response if it has its reply by then
 abbrev pub RunsAreLinearizable : Type 0
 RunsAreLinearizable = (cast : Cast) (steps : List Step) (state : MachineState) → after_steps steps (initial_state cast) ≡ Some state
     → IsLinearizableRun cast steps state.history state.calls

@@ -360,7 +360,7 @@ impl Machine {
         self.hold(caller, Held::Answered { call });
     }
 
-    /// Returns the length of the history, which is the present place in time.
+    /// Returns the length of the history, which is the present point.
     fn now(&self) -> u16
         requires { IsReachable (state_of self.now) }
         ensures { result ≡ length (state_of self.now).history }

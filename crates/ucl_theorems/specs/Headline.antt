@@ -30,7 +30,7 @@ screen_at profile history version roster group =
     let board = board_of (take version history) in
     header group version (in_play board) ++ columns ++ flat_map (row_line roster) (rows_of profile board roster)
 
--- The screen of a snapshot of a legal history, under each profile, roster and group, is that of the history at its place.
+-- The screen of a snapshot of a legal history, under each profile, roster and group, is that of the history at its point.
 abbrev pub ScreensShowTheHistory : Type 0
 ScreensShowTheHistory =
     (history : List Entry) (point : ℕ) → IsLegal history → point ≤ length history
@@ -38,8 +38,8 @@ ScreensShowTheHistory =
     → screen_text profile (snapshot_at history point).board roster group ≡ screen_at profile history point roster group
 
 -- Every run of the machine has one history, for any numbers of reporters and readers (`cast`), with calls left unfinished anywhere: its
--- calls are linearizable. A Begin invokes a call, and its End is the response; of calls without an End, those that have their replies
--- count. Each takes effect at the linearization point that is recorded of it.
+-- calls are linearizable. A Begin invokes a call, and its End is the response; of calls without an End, each that has its reply counts
+-- too. Each takes effect at the linearization point that is recorded of it.
 abbrev pub EveryRunHasOneHistory : Type 0
 EveryRunHasOneHistory = (cast : Cast) (steps : List Step) (state : MachineState) → after_steps steps (initial_state cast) ≡ Some state
     → IsLinearizableRun cast steps state.history state.calls
@@ -52,7 +52,8 @@ pub record IsOfLog (log : Log) (seat : ℕ) (pass : View) : Type 0 where
 -- A word board, between two steps of any threads, has one history. There is one consistent log of all steps, which follows the protocol and
 -- gives all words: the number of enlisted reporters and the board of its history. Each pass knows a prefix of the log, which has its own
 -- steps; no step is of a seat without a pass, and no two reporters have one number (a reader has 0). The calls of the log are linearizable:
--- run one after the other on the board of one thread, in some order that is that of real time, they give the replies that they got.
+-- run one after the other on the board of one thread, in some order that keeps that of their steps in the log, they give the replies that
+-- they got.
 pub record IsOneHistory (state : State Entry View) : Type 0 where
   pub log : Log
   pub is_log : IsConsistentLog log
@@ -95,7 +96,7 @@ pub record LogGoesOn (state : State Entry View) (log later : Log) : Type 0 where
       → HasSeen b.call b.reply c.reply → HasSeen a.call a.reply c.reply
 
 -- The history of a board that satisfies `rule`, its invariant, only grows, whichever steps of whichever passes come between two states: no
--- entry and no completed call ever moves, and the order of calls is that of real time.
+-- entry and no completed call ever moves, and a call that precedes another is before it in the log.
 pub record HistoriesGoOn (rule : State Entry View → Type 0) : Type 0 where
   pub boards : BoardsHaveOneHistory rule
   pub later : (s t : State Entry View) (r : rule s) (q : rule t) → LaterState s t → LogGoesOn s (boards s r).log (boards t q).log

@@ -10,8 +10,8 @@ use ucl_words::rule::WordRule;
 
 /// Shows that a word board has one history, in every state that satisfies its table's invariant. The kit states that each state between two
 /// steps does. One log has all steps but the loads of splits and joins; its history has the match words, and each pass has seen a prefix of
-/// it. Its calls are linearizable (Herlihy and Wing): in some order that is that of time the board of one thread gives the replies that they
-/// got, and has the log's history at the end. The screen of a snapshot is the text of its board, in the chosen order.
+/// it. Its calls are linearizable (Herlihy and Wing): in some order that keeps that of their steps the board of one thread gives the replies
+/// that they got, and has the log's history at the end. The screen of a snapshot is the text of its board, in the chosen order.
 pub fn boards_have_one_history()
     ensures history { BoardsHaveOneHistory (⟦<WordRule as TableRule<Entry, View, ()>>⟧.holds tt) }
     ensures screens { ScreensShowTheHistory }

@@ -65,7 +65,7 @@ pub use Rattle.ucl_word.specs.declared.event.EventCall.{EventCall}
 pub use Rattle.ucl_word.specs.declared.record.MatchRecord.{MatchRecord}
 pub use Rattle.ucl_word.specs.declared.refusal.Refusal.{Refusal}
 pub use Rattle.ucl_word.specs.declared.refusal.Refusal.TheVariants.{Stale}
-pub use Rattle.ucl_words.specs.CollectSteps.{Collects, FindsAgain, FindsAnother, Finishes, IsBegun, IsHoldingFor, MayCollect, StaysIn}
+pub use Rattle.ucl_words.specs.CollectSteps.{Collects, FindsAgain, FindsAnother, Completes, IsBegun, IsHoldingFor, MayCollect, StaysIn}
 pub use Rattle.ucl_words.specs.CollectSteps.{Walks}
 pub use Rattle.ucl_words.specs.LaterState.{FindsEnlisted, JoinIsMonotone, LaterState, LaterStatesCompose, SplitIsMonotone}
 pub use Rattle.ucl_words.specs.TableInvariants.{EnlistStep, EnlistedStep, ExchangeStep, FirstStep, LookStep, Occurs}

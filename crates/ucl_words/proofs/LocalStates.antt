@@ -1,6 +1,6 @@
 -- What the steps of a call leave as done and as held.
 use Rattle.ucl_words.proofs.Common.{AccessKind, Bool, Call, Checking, LocalState, Collecting, CompletesCall, DoneAsBefore, [], CountRead}
-use Rattle.ucl_words.proofs.Common.{CountRaised, EventCall, CompletedCall, Finishes, First, GoesOn, Holding, IsAnswered, IsBegun}
+use Rattle.ucl_words.proofs.Common.{CountRaised, EventCall, CompletedCall, Completes, First, GoesOn, Holding, IsAnswered, IsBegun}
 use Rattle.ucl_words.proofs.Common.{IsNextOfProtocol, List, Look, Match, MayCollect, NoCall, None, Outcome, Pending, Refusal, Reply, Second}
 use Rattle.ucl_words.proofs.Common.{Some, Stale, StaysIn, Steps, Swap, View, after, ap, append-nil, arith, at_is, by_rules, call_answered}
 use Rattle.ucl_words.proofs.Common.{call_asked, checking, local_number, local_of, collected, collecting, cond, entry_by, entry_of, eq-eqb}
@@ -78,7 +78,7 @@ stays_on u v w h k any a b =
 
 -- a call whose pass held nothing before, stayed in it and then finished it, was begun and answered in between
 pub stays_answered : (v u w : View) (held : Pending) (call : Call) (reply : Reply) → (local_of v.own).held ≡ NoCall → number_of u.own ≡ number_of v.own
-    → StaysIn v held u → Finishes u call reply w → CompletesCall v call reply w
+    → StaysIn v held u → Completes u call reply w → CompletesCall v call reply w
 stays_answered v u w held call reply nothing number stays finishes =
     let a = finishes.answers in
     let begun : length v.log ≤ (local_of u.own).first_index = subst (λ (h : Pending). IsBegun h (length v.log) (local_of v.own).first_index (local_of u.own).first_index) nothing stays.begun in
@@ -136,7 +136,7 @@ module _ (seat game n old new : ℕ) (e : EventCall) (v w : View) (s : Steps sea
     comes_as = swap_comes ∙ ap (λ (c : Bool). protocol.Answers (reply_by c)) is
 
     -- the exchange finishes the report with this reply
-    pub swap_finishes : Finishes v (calls.Event e) (reply_by b) w
+    pub swap_finishes : Completes v (calls.Event e) (reply_by b) w
     swap_finishes = record {
       answers = answered seat game n Swap v w s (reply_by b) comes_as (calls.Event e) swap_asked;
       first = ap (λ (h : Pending). begun_index h (local_of v.own).first_index s.step.index) held;
@@ -256,7 +256,7 @@ module _ (v x w : View) (words : List ℕ) (point i seat n : ℕ) (so_far : Seco
   second_on same less = second_is true false (eq-eqb n (slice_index words i) same) (ne_eqb i 11 (λ z. omega arith))
 
   -- if it was the twelfth, the reading is answered with these words
-  pub second_last : n ≡ slice_index words i → i ≡ 11 → Finishes v calls.Reading (replies.Copied (reading_of words)) w
+  pub second_last : n ≡ slice_index words i → i ≡ 11 → Completes v calls.Reading (replies.Copied (reading_of words)) w
   second_last same eleven =
       let is = second_is true true (eq-eqb n (slice_index words i) same) (eq-eqb i 11 eleven) in
       record {

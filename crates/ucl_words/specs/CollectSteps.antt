@@ -65,13 +65,13 @@ abbrev pub IsBegun : Pending → ℕ → ℕ → ℕ → Type 0
 IsBegun NoCall known was first = known ≤ first
 IsBegun _ known was first = first ≡ was
 
--- Between `old` and `new` the pass took steps of one call, not finished yet: `held` is what it keeps of the call, `begun` where that began.
+-- Between `old` and `new` the pass took steps of one call, still pending: `held` is what it keeps of the call, `begun` where that began.
 pub record StaysIn (old : View) (held : Pending) (new : View) : Type 0 where
   pub calls : (local_of new.own).calls ≡ (local_of old.own).calls
   pub held_is : (local_of new.own).held ≡ held
   pub begun : IsBegun (local_of old.own).held (length old.log) (local_of old.own).first_index (local_of new.own).first_index
 
 -- Between `old` and `new` the pass took the last steps of `call`, the call that was under way, which was answered with this reply.
-pub record Finishes (old : View) (call : Call) (reply : Reply) (new : View) : Type 0 where
+pub record Completes (old : View) (call : Call) (reply : Reply) (new : View) : Type 0 where
   pub answers : IsAnswered old call reply new
   pub first : answers.last.first_index ≡ (local_of old.own).first_index

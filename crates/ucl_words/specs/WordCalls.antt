@@ -90,7 +90,7 @@ pub record CompletesCall (old : View) (call : Call) (reply : Reply) (new : View)
   pub answers : IsAnswered old call reply new
   pub since : length old.log ≤ answers.last.first_index
 
--- Between `old` and `new` the pass finished no report and no reading, and began none.
+-- Between `old` and `new` the pass completed no report and no reading, and began none.
 pub record DoneAsBefore (old new : View) : Type 0 where
   pub calls : (local_of new.own).calls ≡ (local_of old.own).calls
   pub held : (local_of new.own).held ≡ (local_of old.own).held

@@ -1,4 +1,4 @@
--- What contracts know of a pass of a word board. A local is what the steps of a pass make of it: its number (0 for a reader), and its
+-- What contracts know of a pass of a word board. A local state is what the steps of a pass make of it: its number (0 for a reader), and its
 -- completed calls.
 use Rattle.std.specs.Prelude.{ℕ, ◌==◌, List, [], ◌∷◌, if◌then◌else◌}
 use Rattle.std.specs.List.{flat_map}
@@ -20,7 +20,7 @@ version_in reply = []
 abbrev pub versions_by : LocalState → List ℕ
 versions_by local = flat_map (λ call. if call.number == local.number then version_in call.reply else []) local.calls
 
--- The versions of the readings that a pass with these steps has finished, oldest first, since it was enlisted if it is a reporter's.
+-- The versions of the readings that a pass with these steps has completed, oldest first, since it was enlisted if it is a reporter's.
 abbrev pub versions_shown : List TakenStep → List ℕ
 versions_shown steps = versions_by (local_of steps)
 

@@ -7,7 +7,7 @@ ghost use Rattle.atomic_table.specs.Seated.{TableId};
 ghost use Rattle.ucl_board.specs.Fixtures.{IsMatch};
 ghost use Rattle.ucl_board.specs.History.{reading_of};
 ghost use Rattle.ucl_words.specs.TableInvariants.{words_after, ImpliesInvariant, Occurs, Steps};
-ghost use Rattle.ucl_words.specs.CollectSteps.{Collects, FindsAgain, FindsAnother, IsHoldingFor, MayCollect, StaysIn, Finishes};
+ghost use Rattle.ucl_words.specs.CollectSteps.{Collects, FindsAgain, FindsAnother, IsHoldingFor, MayCollect, StaysIn, Completes};
 ghost use Rattle.ucl_words.specs.WordCalls.{IsConsistent};
 ghost use Rattle.ucl_words.specs.WordRecords.{WordOpened, WordReported, WordRead, WordSplit, WordEnlisted, WordFull, WordMet, IsWordPassOf};
 ghost use Rattle.ucl_words.specs.WordViews.{pass_of};
@@ -169,7 +169,7 @@ impl WordBoard {
             (FindsAgain seat.old.me.0 words.now seat.new.me.0)
             (FindsAnother seat.old.me.0 words.now seat.new.me.0) }
         ensures does { MatchBool result
-            (Finishes seat.old.me.0 calls.Reading (replies.Copied (reading_of words.now))
+            (Completes seat.old.me.0 calls.Reading (replies.Copied (reading_of words.now))
             seat.new.me.0)
             (StaysIn seat.old.me.0 (Collecting []) seat.new.me.0) }
         ensures occurs { MatchBool result (Occurs seat.new.id seat.new.me.0) (Unit {0}) }

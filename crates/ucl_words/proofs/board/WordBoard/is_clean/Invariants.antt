@@ -1,4 +1,4 @@
-use Rattle.ucl_words.proofs.Common.{◌≡◌, ◌<◌, length, Occurs, Second, FindsAgain, Finishes, history_of, reading_of}
+use Rattle.ucl_words.proofs.Common.{◌≡◌, ◌<◌, length, Occurs, Second, FindsAgain, Completes, history_of, reading_of}
 use Rattle.ucl_words.proofs.LocalStates.{Seconds}
 use Rattle.ucl_words.proofs.Readings.{Collected}
 use Rattle.ucl_live_board.specs.Steps.{no_call}
@@ -13,7 +13,7 @@ invariant-loop-checked l = record {
   so_far : l.checked < 12 → Collected Second l.fn.seat.me.0 l.words l.checked l.seat.me.0
       × Seconds l.fn.seat.me.0 l.words (length (history_of l.fn.seat.me.0.log)) l.checked l.seat.me.0;
   all : l.checked ≡ 12 → FindsAgain l.fn.seat.me.0 l.words l.seat.me.0
-      × Finishes l.fn.seat.me.0 calls.Reading (replies.Copied (reading_of l.words)) l.seat.me.0;
+      × Completes l.fn.seat.me.0 calls.Reading (replies.Copied (reading_of l.words)) l.seat.me.0;
   occurs : l.checked ≡ 12 → Occurs l.seat.id l.seat.me.0;
 }
 
