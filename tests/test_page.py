@@ -659,6 +659,21 @@ def edges(sheet, name):
 
 
 @pytest.mark.quick
+def test_an_overlay_in_a_frame_of_a_light_page(sheet, tmp_path):
+    """What stands behind it is seen: a browser gives a frame of another colour scheme a ground of its own."""
+    image = pytest.importorskip("PIL.Image", reason="no Pillow: python3-pil has it")
+    style = "border: 0; width: 100%; height: 100vh"
+    frame = f"<iframe src='{PAGE.as_uri()}?group=A&overlay' style='{style}'></iframe>"
+    (tmp_path / "light.html").write_text(f"<body style='margin: 0; background: #00ff00'>{frame}")
+    sheet.resize(LARGE)
+    sheet.browser.get((tmp_path / "light.html").as_uri())
+    (tmp_path / "light.png").write_bytes(sheet.picture())
+    picture = image.open(tmp_path / "light.png").convert("RGB")
+    assert picture.getpixel((LARGE[0] // 2, LARGE[1] - 50)) == (0, 255, 0)
+    assert picture.getpixel((LARGE[0] // 2, 60)) != (0, 255, 0)
+
+
+@pytest.mark.quick
 @pytest.mark.parametrize(
     "words, size", [("overlay", LARGE), ("overlay", (390, 844)), ("overlay&silent", LARGE)]
 )
