@@ -330,15 +330,20 @@ async def test_what_waits_is_taken_before_a_newer_moment_is_drawn(
 
 
 async def test_what_others_enter_is_told(board: Board, desk: Desk) -> None:
-    """With its row, and its match as it stands; what is one's own is not, nor what is refused."""
-    answers = [answer_of(line) for line in lines_to(GOAL + "2,1,4,goal-home\n")]
+    """With its row, and its match as it stands; what is one's own is not, nor what is refused. What
+    the same reporter enters elsewhere is."""
+    came = GOAL + "2,1,4,goal-home\n1,1,5,goal-away\n"
+    answers = [answer_of(line) for line in lines_to(came)]
     desk.pending.add(Sent("1 goal home", [Row(1, 3, "goal-home")]))
-    board.tell(reply_of(answers[-4:-2]))
+    board.tell(reply_of(answers[-6:-4]))
     assert desk.lines == []
-    board.tell(reply_of(answers[-2:]))
+    board.tell(reply_of(answers[-4:-2]))
     board.tell(Reply(refusal("1,1,2,goal-home\n")))
-    told = "row 10: 1 goal home by reporter 2: Bravo 3-1 Charlie, in play, event 5 by 2"
-    assert desk.lines == [told]
+    board.tell(reply_of(answers[-2:]))
+    assert desk.lines == [
+        "row 10: 1 goal home by reporter 2: Bravo 3-1 Charlie, in play, event 5 by 2",
+        "row 11: 1 goal away by reporter 1: Bravo 3-2 Charlie, in play, event 6 by 1",
+    ]
 
 
 def test_own_rows_of_an_edition_that_is_over_wait_no_more() -> None:
