@@ -32,7 +32,7 @@ from drivers.websocket import Socket
 from ucl_hall.engine.answers import Mended, Refused
 from ucl_hall.engine.history import Event
 from ucl_hall.engine.trial import NewEdition
-from ucl_hall.faults import Dropped, Fault, Lost, NotEntered, Over, Unreached
+from ucl_hall.faults import Dropped, Fault, Lost, MaybeEntered, NotDone, NotEntered, Over, Unreached
 from ucl_hall.record.begin import begin
 from ucl_hall.record.cluster import Access, Address
 from ucl_hall.record.etcd import EtcdLog
@@ -250,6 +250,27 @@ def test_an_answer_that_is_lost(nodes: Nodes, where: str, live: str, status: int
 
 
 # ---- nodes that do nothing
+
+
+@pytest.mark.parametrize("is_lost", [False, True], ids=["no answer is lost", "one is lost"])
+def test_a_node_that_says_that_it_does_nothing(
+    where: str, live: str, monkeypatch: pytest.MonkeyPatch, is_lost: bool
+) -> None:
+    """Nothing is entered, unless an answer was lost before: then nobody knows, which is told."""
+    faults: list[Fault] = [NotDone("no room")]
+    if is_lost:
+        faults.insert(0, Unreached("", ""))
+
+    async def put(*_: Any) -> bool:
+        raise faults.pop(0)
+
+    async def work(here: Record) -> None:
+        monkeypatch.setattr(here._log, "_put", put)
+        with pytest.raises(MaybeEntered if is_lost else NotEntered, match="etcd says: no room"):
+            await here.enter(tap(1))
+        assert faults == []
+
+    worked(where, live, work, 1)
 
 
 SAYS = {
