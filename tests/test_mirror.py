@@ -1,5 +1,6 @@
 """Servers that follow another: what they show, whatever becomes of the lines on their way."""
 
+import contextlib
 import json
 import os
 import random
@@ -282,6 +283,28 @@ def test_a_follower_is_killed_before_it_has_read(mirrors: Mirrors) -> None:
         assert mirror.shows(version)
     assert versions(feed, 11) == [*range(1, 12)]
     assert mirror.end(signal.SIGTERM) == (0, "", "")
+
+
+def test_a_follower_that_is_killed_again_and_again(mirrors: Mirrors) -> None:
+    """What was shown stays, and is called old, although pulses say that it is the board's."""
+    mirror, pulse = mirrors("--follow", "-"), PULSE.replace(str([0, len(LINES)]), "[0, 1]")
+    put(mirror, [LINES[0], pulse])
+    assert mirror.shows(1) and until(mirror.is_there)
+
+    def is_over() -> bool:
+        for child in mirror.children():
+            with contextlib.suppress(ProcessLookupError):
+                os.kill(child, signal.SIGKILL)
+        return "again and again" in health(mirror.port)["groups"]["A"]["fault"]
+
+    assert until(is_over, 60)
+    put(mirror, [pulse])
+    screen = Socket(mirror.port, "/lines")
+    for _ in range(3):
+        put(mirror, [pulse])
+        assert screen.until("pulse") and screen.lines[-1]["groups"] == ""
+        assert not mirror.is_there()
+    assert table(mirror)["version"] == 1
 
 
 def test_a_long_pipe_and_its_end(mirrors: Mirrors) -> None:
