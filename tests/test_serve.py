@@ -204,6 +204,24 @@ def test_records_stand_wherever_they_are_typed():
 
 
 @pytest.mark.quick
+def test_what_holds_without_an_option_is_as_the_help_says(capsys):
+    """A server that is started by its records alone is reached from this machine alone."""
+    options = options_of(["a.csv"])
+    assert (options.listen, options.most_screens) == (("127.0.0.1", 8080), 4_000)
+    assert (options.groups, options.order) == ("ABCDEFGH", "uefa")
+    assert options.evening("A").reporters == {1: tuple(range(1, 13))}
+    with pytest.raises(SystemExit) as ended:
+        options_of(["--help"])
+    told = " ".join(capsys.readouterr().out.split())
+    assert ended.value.code == 0
+    for words in (
+        *("--listen HOST:PORT 127.0.0.1:8080 without it;", "--most-screens N 4000 without it;"),
+        *("as 2:5,6; 1 without it;", "--group, A without it,"),
+    ):
+        assert words in told
+
+
+@pytest.mark.quick
 @pytest.mark.parametrize("line", REFUSED)
 def test_command_lines_that_are_refused(capsys, line):
     with pytest.raises(SystemExit) as ended:
