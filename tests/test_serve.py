@@ -173,6 +173,29 @@ def test_a_code_for_each_address(monkeypatch, capsys):
     assert capsys.readouterr().out.splitlines() == [serve.SEEN, *told]
 
 
+OWN = "--certificate c --key k"
+
+
+@pytest.mark.quick
+@pytest.mark.parametrize(
+    "words, url, is_open",
+    [
+        ("--listen hall.local:80", "http://hall.local/", True),
+        ("--listen hall.local:8080", "http://hall.local:8080/", True),
+        (f"--listen hall.local:443 {OWN}", "https://hall.local/", False),
+        (f"--listen hall.local:80 {OWN}", "https://hall.local:80/", False),
+        ("--listen 0.0.0.0:8080 --url https://hall.example", "https://hall.example/", False),
+        ("--listen 0.0.0.0:8080 --url http://hall.example", "http://hall.example/", True),
+        ("--listen [fd00::2]:8080", "http://[fd00::2]:8080/", True),
+    ],
+)
+def test_the_address_for_screens(capsys, words, url, is_open):
+    """Without the port that a browser takes by itself; and what it means that there is no https."""
+    serve.tell(options_of(["a.csv", *words.split()]), [])
+    told = [f"Screens: {url}", *[serve.OPEN] * is_open]
+    assert capsys.readouterr().out.splitlines() == told
+
+
 def test_files_that_the_pages_leave_are_no_sources():
     """What the commands of README and OPERATE leave in the folder is not taken for a source."""
     if command(["git", "rev-parse"]).status:
