@@ -505,6 +505,18 @@ async def test_rows_with_their_numbers(board: Board, desk: Desk, given: list[str
     assert sent == [line, (Way.AGAIN, 1, Row(1, 2, "goal-home")), line]
 
 
+async def test_who_looks_on_is_told_why_the_board_has_ended(
+    board: Board, capsys: pytest.CaptureFixture[str]
+) -> None:
+    """By the fault, behind what was shown."""
+    watching = asyncio.create_task(batch.watch_lines(board, [1]))
+    await asyncio.sleep(0)
+    board.over.set_exception(Replaced("a.csv"))
+    with pytest.raises(Replaced):
+        await watching
+    assert capsys.readouterr().out.endswith("\n 1 Bravo 1-1 Charlie, in play, event 3 by 1\n")
+
+
 def test_a_sheet() -> None:
     """The clubs and words of the board, after mends too."""
     rows, evening = STARTED + 'mend,8,,\nclub,2,"Br""avo,",7\n', model.Session([])
