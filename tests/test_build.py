@@ -2,6 +2,7 @@
 
 import os
 import shutil
+from concurrent.futures import ThreadPoolExecutor
 
 import pytest
 from conftest import EXAMPLES, TOP, command, text_of
@@ -86,6 +87,15 @@ def test_proves_what_has_changed(tmp_path):
     failed = small.run("build", "one")
     assert failed.status == 1 and "low NOT PROVED" in failed.errors and unbuilt()[0] == 1
     assert text_of(tmp_path / "runs") == "low one low: one: low\n" * 6
+
+
+def test_two_builds_at_once(tmp_path):
+    """The second waits for the first, and then has nothing to prove."""
+    small = Repository(tmp_path, f"sleep 0.5\n{PROVES % tmp_path}")
+    with ThreadPoolExecutor() as pool:
+        builds = [pool.submit(small.run, "build", "one") for _ in range(2)]
+    assert [it.result().status for it in builds] == [0, 0]
+    assert text_of(tmp_path / "runs") == "low one low: one: low\n"
 
 
 def test_start_of_what_is_built(program, place):
