@@ -382,7 +382,8 @@ def test_a_page_of_another_host_opens_no_websocket(hall):
 @pytest.mark.quick
 def test_names_that_are_not_of_this_server(hall):
     """A page of another host may have its name lead here: it reads nothing. Nobody is asked for a name."""
-    one = hall("--reporter", "1", "--url", "http://Hall.example:8080/")
+    at = ["--at", "http://Second.example:8080"]
+    one = hall("--reporter", "1", "--url", "http://Hall.example:8080/", *at)
     paths = ["/", "/health", "/replay.jsonl", f"/report/{one.key(1)}"]
     asked = lambda path, host: one.get(path, f"Host: {host}", host=False)[0]
     for host in (
@@ -393,7 +394,7 @@ def test_names_that_are_not_of_this_server(hall):
         assert Socket(one.port, "/lines", host=host, origin=f"http://{host}").status in (403, 400)
     for host in (
         *("127.0.0.1", f"127.0.0.1:{one.port}", "192.168.1.5", "[::1]:8080", "localhost"),
-        *("laptop.local:8080", "hall.example", "HALL.example:8080"),
+        *("laptop.local:8080", "hall.example", "HALL.example:8080", "second.example:8080"),
     ):
         assert {asked(path, host) for path in paths} == {200}, host
         assert Socket(one.port, "/lines", host=host).status == 101
