@@ -266,6 +266,15 @@ def test_lines_that_are_none_of_a_feed(mirrors: Mirrors) -> None:
     assert mirror.end(signal.SIGTERM) == (0, "", "")
 
 
+def test_a_mirror_with_a_title_of_its_own(mirrors: Mirrors) -> None:
+    """It stays, whatever the other server is called."""
+    mirror = mirrors("--follow", "-", "--title", "Newsroom")
+    put(mirror, ['{"reply":"hall","title":"Finals","groups":"A","tonight":{"A":[1]}}', LINES[0]])
+    assert mirror.shows(1)
+    named = {"reply": "hall", "title": "Newsroom", "groups": "A", "tonight": {"A": [1]}}
+    assert Socket(mirror.port, "/lines").receive() == named
+
+
 def test_a_follower_is_killed_before_it_has_read(mirrors: Mirrors) -> None:
     """The line is given to the next one, which tells nothing twice."""
     mirror = mirrors("--follow", "-")
