@@ -12,6 +12,7 @@ import socket
 import subprocess
 import time
 from collections.abc import AsyncIterator, Iterator
+from contextlib import aclosing
 from dataclasses import replace
 from typing import Any
 
@@ -41,6 +42,7 @@ from ucl_hall.record.record import Record
 from ucl_hall.record.sending import Events, Mend, Way
 from ucl_hall.record.writer import LOOK
 from ucl_hall.rows import Row
+from ucl_hall.web.shared_keys import SharedKeys
 
 pytestmark = [pytest.mark.limit(200), pytest.mark.xdist_group("etcd")]
 
@@ -661,6 +663,24 @@ def test_one_address_by_haproxy(where: str, live: str, tmp_path: pathlib.Path) -
             server.start()
             assert until(lambda: is_reached(server.port))
             time.sleep(1.5)
+
+
+def test_keys_that_two_servers_make_at_once(where: str, monkeypatch: pytest.MonkeyPatch) -> None:
+    """They are those of the one that was first, also where the other had looked before."""
+
+    async def work() -> None:
+        async with aclosing(SharedKeys(where)) as first, aclosing(SharedKeys(where)) as second:
+            read, seen = second.read, [await second.read()]
+
+            async def late() -> dict[int, str]:
+                return seen.pop() if seen else await read()
+
+            assert seen == [{}]
+            keys = await first.of([1, 2], [], all_new=False)
+            monkeypatch.setattr(second, "read", late)
+            assert await second.of([1, 2], [], all_new=False) == keys == await first.read()
+
+    asyncio.run(work())
 
 
 @pytest.mark.parametrize("words, is_kept", [(["--new-keys"], False), (["--revoke", "1"], True)])
