@@ -117,10 +117,11 @@ UNPROTECTED = {
 
 
 def test_units(tree, tmp_path):
-    """What systemd says of the one there is by its own units, beside which it stands; that it has all protections but some, and starts a server that ended again."""
+    """What systemd says of the one there is by its own units, beside which it stands; that it has all protections but some, starts a server that ended again, however often, and lets nobody else read its folder."""
     needs("systemd-analyze")
     units = [*tree.glob("usr/lib/systemd/system/ucl-*")]
-    assert ["Restart=always\n" in text_of(path) for path in units] == [True]
+    for line in "Restart=always", "StartLimitIntervalSec=0", "StateDirectoryMode=0750":
+        assert [f"\n{line}\n" in text_of(path) for path in units] == [True], line
     root = shutil.copytree(tree, tmp_path / "root", symlinks=True)
     beside = "usr/lib/systemd/system"
     shutil.copytree(f"/{beside}", root / beside, symlinks=True, dirs_exist_ok=True)
