@@ -767,7 +767,7 @@ def test_matches_that_are_over_stay_until_their_clubs_play_again(sheet):
 
 @pytest.mark.quick
 def test_seasons_that_are_replayed(browser):
-    """Whoever has the page and a server of files sees a matchday, or a season of a group or of all, which end as they did."""
+    """Whoever has the page and a server of files sees a matchday, or a season of a group or of all, which end as they did, and then begin again."""
     port = free_port()
     shown = lambda: browser.execute_script(SHOWN + "return shown()")
     asked = [
@@ -787,6 +787,17 @@ def test_seasons_that_are_replayed(browser):
             assert shown() == wanted, words
         browser.get(f"http://127.0.0.1:{port}/?replay=2020-21&group=A")
         assert until(lambda: shown()["A"]["signal"] == "No recording", 20)
+        # Time passes faster there, so that nobody waits for the end of its pause.
+        fast = (
+            "const later = setTimeout; window.setTimeout = (work, time) => later(work, time / 50);"
+        )
+        added = browser.execute_cdp_cmd("Page.addScriptToEvaluateOnNewDocument", {"source": fast})
+        try:
+            browser.get(f"http://127.0.0.1:{port}/?replay&group=A&pace=1")
+            browser.execute_script("window.isFirst = true")
+            assert until(lambda: browser.execute_script("return !window.isFirst"), 20)
+        finally:
+            browser.execute_cdp_cmd("Page.removeScriptToEvaluateOnNewDocument", added)
 
 
 # ---- with a server
