@@ -30,6 +30,7 @@ from ucl_hall.terminal import batch, command, words
 from ucl_hall.terminal.grammar import LINES
 from ucl_hall.terminal.pending import Pending, Seen, Sent
 from ucl_hall.terminal.session import Session
+from ucl_hall.web.notices import Notices
 from ucl_hall.web.phones import WAYS, Reporter, events_told, message_of
 from ucl_hall.web.shown import Shown
 
@@ -591,3 +592,22 @@ def test_an_operator_is_told_that_a_board_is_gone(
         group.look()
         assert capsys.readouterr().err == told
         assert (group.health()["fault"], group.health()["is_there"]) == (fault, not silence)
+
+
+def test_an_operator_is_told_of_strangers_once_a_minute(
+    capsys: pytest.CaptureFixture[str], monkeypatch: MonkeyPatch
+) -> None:
+    """In a line, of all that has come up since the last."""
+    clock = SimpleNamespace(monotonic=lambda: 0.0)
+    monkeypatch.setattr("ucl_hall.web.notices.time", clock)
+    notices = Notices()
+    for second, came, told in [
+        *((100, ["1.1.1.1"], "cut off 1 connections, all of 1.1.1.1"), (101, ["1.1.1.2"], "")),
+        *((159, ["1.1.1.3"] * 2, ""), (160, [], "cut off 3 connections, most of 1.1.1.3")),
+        *((161, ["1.1.1.1"], ""), (230, [], "cut off 1 connections, all of 1.1.1.1")),
+    ]:
+        clock.monotonic = lambda: float(second)
+        for address in came:
+            notices.cut_off(address)
+        notices.tell()
+        assert capsys.readouterr().err == (f"ucl_serve: {told}\n" if told else "")
