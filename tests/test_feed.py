@@ -22,7 +22,7 @@ from drivers.server import got, health
 from drivers.text import TOP, lines_to_type
 from drivers.wait import until
 
-from ucl_hall.web.connections import AGAIN, Screen, Screens
+from ucl_hall.web.connections import AGAIN, Screen, Screens, frame_of
 
 pytestmark = pytest.mark.limit(200)
 Halls = Callable[..., Any]
@@ -143,6 +143,19 @@ def test_slow_readers_get_the_newest_and_hold_nobody_up(hall: Halls) -> None:
             assert shown[1:] == sorted(set(shown[1:])) and len(shown) < 500
 
 
+@pytest.mark.quick
+@pytest.mark.parametrize(
+    "count, head",
+    [
+        *((0, b"\x81\0"), (125, b"\x81\x7d"), (126, b"\x81\x7e\0\x7e")),
+        *((65_535, b"\x81\x7e\xff\xff"), (65_536, b"\x81\x7f\0\0\0\0\0\1\0\0")),
+    ],
+)
+def test_the_frame_of_a_line(count: int, head: bytes) -> None:
+    """At each length where it begins otherwise."""
+    assert frame_of(b"x" * count) == head + b"x" * count
+
+
 class Slow:
     """A transport that is slow while it has bytes."""
 
@@ -162,6 +175,7 @@ class Slow:
         self.sent.append(data)
 
 
+@pytest.mark.quick
 async def test_who_was_slow_gets_each_line_once() -> None:
     """And what comes later at once."""
     slow: Any = Slow()
