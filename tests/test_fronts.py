@@ -20,7 +20,8 @@ from pytest import MonkeyPatch
 from ucl_hall.engine.answers import Refused, Reply
 from ucl_hall.engine.history import Event
 from ucl_hall.engine.json_lines import answer_of, reply_of
-from ucl_hall.engine.trial import Changed, LeaveOut, MendRefused, Trial
+from ucl_hall.engine.trial import Change, Changed, ClubChange, LeaveOut, MendRefused
+from ucl_hall.engine.trial import NewEdition, Trial
 from ucl_hall.faults import CutOff, DiskFails, Dropped, Held, Lost, NotEntered, NotWritten, Replaced
 from ucl_hall.record.board import Board as AnyBoard
 from ucl_hall.record.record import Record
@@ -443,6 +444,33 @@ async def test_a_mend_by_the_command_line(
     clubs = "1 Alpha 60000, 2 Bravo 95000, 3 Charlie 60000, 4 Delta 81500"
     before = [f"Before: {clubs}", *words.table(moment_of(STARTED)), f"After: {clubs}"]
     assert desk.lines[:10] == [ASKED, *before, "GROUP B v00002 IN PLAY 1 EDITION 1"]
+
+
+@pytest.mark.parametrize(
+    "words, change",
+    [
+        *(
+            (["--mend"], NewEdition()),
+            (["--mend", ""], NewEdition()),
+            (["--mend", "7"], LeaveOut(7)),
+        ),
+        (["--mend", "club 2 Real Madrid"], ClubChange(2, name="Real Madrid")),
+        (["--mend", "coefficient 1 61.000"], ClubChange(1, coefficient=61_000)),
+    ],
+)
+async def test_what_a_mend_by_the_command_line_takes(
+    desk: Desk, monkeypatch: MonkeyPatch, words: list[str], change: Change
+) -> None:
+    """What is typed at a terminal, and a row alone; nothing is a new edition."""
+    monkeypatch.setattr(desk, "propose", proposed := AsyncMock())
+    assert await command._mend(desk, command.options_of(["a.csv", *words]), desk) == 0
+    assert proposed.await_args and proposed.await_args.args[1] == change
+
+
+async def test_an_event_is_no_mend(desk: Desk) -> None:
+    options = command.options_of(["a.csv", "--mend", "1 kickoff"])
+    with pytest.raises(NotEntered, match="--mend takes 17, "):
+        await command._mend(desk, options, desk)
 
 
 # ---- without a terminal

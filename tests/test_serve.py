@@ -10,6 +10,7 @@ import re
 import signal
 import socket
 import time
+from types import SimpleNamespace
 
 import model
 import pytest
@@ -224,6 +225,16 @@ def test_records_stand_wherever_they_are_typed():
     options = options_of("a.csv --clubs a --listen 0.0.0.0:8080 b.csv --clubs b".split())
     assert (options.records, options.clubs) == (["a.csv", "b.csv"], ["a", "b"])
     assert options_of(["--links", "a.csv", "--url", "http://x", "b.csv"]).records[1:] == ["b.csv"]
+
+
+@pytest.mark.quick
+def test_the_group_that_is_likely(monkeypatch, tmp_path):
+    """Of records that are not there yet the second is asked for as group B."""
+    monkeypatch.chdir(tmp_path)
+    monkeypatch.setattr("sys.stdin", SimpleNamespace(isatty=lambda: True))
+    monkeypatch.setattr(serve, "rows_by_questions", lambda letter="A": letter)
+    rows = serve.first_rows(options_of(["x.csv", "y.csv"]))
+    assert rows == {"x.csv": "A", "y.csv": "B"}
 
 
 @pytest.mark.quick
