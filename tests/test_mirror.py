@@ -110,7 +110,8 @@ def test_a_mirror_of_a_mirror_shows_what_the_board_shows(hall: Halls, mirrors: M
 
 
 def test_the_board_is_killed_and_comes_back(hall: Halls, mirrors: Mirrors) -> None:
-    """Who looks on is told that the picture is old, also who comes then; it never goes back."""
+    """Who looks on is told that the picture is old, also who comes then; it never goes back. Who
+    runs the mirror is told each time."""
     one = hall("--reporter", "1")
     mirror = mirrors(*source(one.port))
     assert one.phone(1).answer(1, 0, "kickoff") == "entered"
@@ -126,10 +127,11 @@ def test_the_board_is_killed_and_comes_back(hall: Halls, mirrors: Mirrors) -> No
     assert until(lambda: int(got(mirror.port, "/table.txt")[1]["age"]) > old >= 3)
     one.process.send_signal(signal.SIGCONT)
     assert until(mirror.is_there)
-    one.end()
-    assert until(lambda: not mirror.is_there())
-    one.start()
-    assert until(mirror.is_there) and "age" not in got(mirror.port, "/table.txt")[1]
+    for _ in range(2):
+        one.end()
+        assert until(lambda: not mirror.is_there())
+        one.start()
+        assert until(mirror.is_there) and "age" not in got(mirror.port, "/table.txt")[1]
     assert one.phone(1).answer(1, 1, "goal-home") == "entered"
     assert early.until("screen", version=2) and late.until("screen", version=2)
     shown = [it["version"] for it in early.lines if it["reply"] == "screen"]
@@ -140,7 +142,7 @@ def test_the_board_is_killed_and_comes_back(hall: Halls, mirrors: Mirrors) -> No
     lost = [f"{named}{why}; it is tried again until it is there" for why in ways]
     lines = told.errors.splitlines()
     assert told.status == 0 and lines and set(lines[::2]) <= set(lost)
-    assert lines[1::2] == [f"{named}it is there again"] * (len(lines) // 2)
+    assert len(lines) >= 4 and lines[1::2] == [f"{named}it is there again"] * (len(lines) // 2)
 
 
 def test_several_of_one_record_make_one_picture(hall: Halls, mirrors: Mirrors) -> None:
