@@ -163,6 +163,7 @@ def test_what_is_shown_of_a_match(page: Page) -> None:
     assert page.text("goals") == "v" and page.text("last") == "To come."
     page.hear({"reply": "phones", "count": 2}, ME | {"title": "Finals"})
     assert page.text("line") == "2 phones have this link. Reporter 1, group B: Finals"
+    assert page.browser.title == "Reporter 1, group B: Finals"
 
 
 def test_what_is_sent(page: Page) -> None:
