@@ -2,6 +2,7 @@
 
 import os
 import shutil
+from concurrent.futures import ThreadPoolExecutor
 
 import pytest
 from conftest import EXAMPLES, TOP, command, text_of
@@ -76,14 +77,25 @@ def test_proves_what_has_changed(tmp_path):
         (tmp_path / link).parent.mkdir(exist_ok=True)
         (tmp_path / link).symlink_to(to)
         assert command([tmp_path / link]) == (0, "built\n", "")
-    small.change("crates/low/src/lib.rt", "changed")
-    assert unbuilt() == (1, "one\n") and small.run("build", "one").status == 0
-    assert unbuilt() == (0, "")
+    sources = [f"crates/low/{it}" for it in ("src/lib.rt", "specs/Low.antt", "proofs/Low.antt")]
+    for name in *sources, "HANDLES":
+        small.change(name, "changed")
+        assert unbuilt() == (1, "one\n"), name
+        assert small.run("build", "one").status == 0 and unbuilt() == (0, "")
     small.change("crates/low/fails", "")
     small.change("crates/one/src/main.rt", "changed")
     failed = small.run("build", "one")
     assert failed.status == 1 and "low NOT PROVED" in failed.errors and unbuilt()[0] == 1
-    assert text_of(tmp_path / "runs") == "low one low: one: low\n" * 3
+    assert text_of(tmp_path / "runs") == "low one low: one: low\n" * 6
+
+
+def test_two_builds_at_once(tmp_path):
+    """The second waits for the first, and then has nothing to prove."""
+    small = Repository(tmp_path, f"sleep 0.5\n{PROVES % tmp_path}")
+    with ThreadPoolExecutor() as pool:
+        builds = [pool.submit(small.run, "build", "one") for _ in range(2)]
+    assert [it.result().status for it in builds] == [0, 0]
+    assert text_of(tmp_path / "runs") == "low one low: one: low\n"
 
 
 def test_start_of_what_is_built(program, place):

@@ -12,6 +12,7 @@ import socket
 import subprocess
 import time
 from collections.abc import AsyncIterator, Iterator
+from contextlib import aclosing
 from dataclasses import replace
 from typing import Any
 
@@ -32,7 +33,7 @@ from drivers.websocket import Socket
 from ucl_hall.engine.answers import Mended, Refused
 from ucl_hall.engine.history import Event
 from ucl_hall.engine.trial import NewEdition
-from ucl_hall.faults import Dropped, Fault, Lost, NotEntered, Over, Unreached
+from ucl_hall.faults import Dropped, Fault, Lost, MaybeEntered, NotDone, NotEntered, Over, Unreached
 from ucl_hall.record.begin import begin
 from ucl_hall.record.cluster import Access, Address
 from ucl_hall.record.etcd import EtcdLog
@@ -41,6 +42,7 @@ from ucl_hall.record.record import Record
 from ucl_hall.record.sending import Events, Mend, Way
 from ucl_hall.record.writer import LOOK
 from ucl_hall.rows import Row
+from ucl_hall.web.shared_keys import SharedKeys
 
 pytestmark = [pytest.mark.limit(200), pytest.mark.xdist_group("etcd")]
 
@@ -250,6 +252,27 @@ def test_an_answer_that_is_lost(nodes: Nodes, where: str, live: str, status: int
 
 
 # ---- nodes that do nothing
+
+
+@pytest.mark.parametrize("is_lost", [False, True], ids=["no answer is lost", "one is lost"])
+def test_a_node_that_says_that_it_does_nothing(
+    where: str, live: str, monkeypatch: pytest.MonkeyPatch, is_lost: bool
+) -> None:
+    """Nothing is entered, unless an answer was lost before: then nobody knows, which is told."""
+    faults: list[Fault] = [NotDone("no room")]
+    if is_lost:
+        faults.insert(0, Unreached("", ""))
+
+    async def put(*_: Any) -> bool:
+        raise faults.pop(0)
+
+    async def work(here: Record) -> None:
+        monkeypatch.setattr(here._log, "_put", put)
+        with pytest.raises(MaybeEntered if is_lost else NotEntered, match="etcd says: no room"):
+            await here.enter(tap(1))
+        assert faults == []
+
+    worked(where, live, work, 1)
 
 
 SAYS = {
@@ -640,6 +663,24 @@ def test_one_address_by_haproxy(where: str, live: str, tmp_path: pathlib.Path) -
             server.start()
             assert until(lambda: is_reached(server.port))
             time.sleep(1.5)
+
+
+def test_keys_that_two_servers_make_at_once(where: str, monkeypatch: pytest.MonkeyPatch) -> None:
+    """They are those of the one that was first, also where the other had looked before."""
+
+    async def work() -> None:
+        async with aclosing(SharedKeys(where)) as first, aclosing(SharedKeys(where)) as second:
+            read, seen = second.read, [await second.read()]
+
+            async def late() -> dict[int, str]:
+                return seen.pop() if seen else await read()
+
+            assert seen == [{}]
+            keys = await first.of([1, 2], [], all_new=False)
+            monkeypatch.setattr(second, "read", late)
+            assert await second.of([1, 2], [], all_new=False) == keys == await first.read()
+
+    asyncio.run(work())
 
 
 @pytest.mark.parametrize("words, is_kept", [(["--new-keys"], False), (["--revoke", "1"], True)])

@@ -1,5 +1,6 @@
 """The feed of a server, and the table once: for whoever draws it by a program of their own."""
 
+import asyncio
 import contextlib
 import itertools
 import json
@@ -20,6 +21,8 @@ from drivers.program import Started, command, needs
 from drivers.server import got, health
 from drivers.text import TOP, lines_to_type
 from drivers.wait import until
+
+from ucl_hall.web.connections import AGAIN, Screen, Screens, frame_of
 
 pytestmark = pytest.mark.limit(200)
 Halls = Callable[..., Any]
@@ -138,6 +141,54 @@ def test_slow_readers_get_the_newest_and_hold_nobody_up(hall: Halls) -> None:
         pages = [it["version"] for it in page.lines if it["reply"] == "screen"]
         for shown in [pages, *(shown_to(feed, 600) for feed in feeds)]:
             assert shown[1:] == sorted(set(shown[1:])) and len(shown) < 500
+
+
+@pytest.mark.quick
+@pytest.mark.parametrize(
+    "count, head",
+    [
+        *((0, b"\x81\0"), (125, b"\x81\x7d"), (126, b"\x81\x7e\0\x7e")),
+        *((65_535, b"\x81\x7e\xff\xff"), (65_536, b"\x81\x7f\0\0\0\0\0\1\0\0")),
+    ],
+)
+def test_the_frame_of_a_line(count: int, head: bytes) -> None:
+    """At each length where it begins otherwise."""
+    assert frame_of(b"x" * count) == head + b"x" * count
+
+
+class Slow:
+    """A transport that is slow while it has bytes."""
+
+    def __init__(self) -> None:
+        self.size, self.sent = 0, list[bytes]()
+
+    def get_write_buffer_size(self) -> int:
+        """As many as the test says."""
+        return self.size
+
+    def is_closing(self) -> bool:
+        """It is not."""
+        return False
+
+    def write(self, data: bytes) -> None:
+        """Keeps it."""
+        self.sent.append(data)
+
+
+@pytest.mark.quick
+async def test_who_was_slow_gets_each_line_once() -> None:
+    """And what comes later at once."""
+    slow: Any = Slow()
+    screens, screen = Screens(), Screen(slow, lambda line: line)
+    with screens.having(screen, b"0"):
+        slow.size = 1
+        for line in b"1", b"2":
+            screens.send("A", line)
+        assert slow.sent == [b"0"] and screens.left_out == 1
+        slow.size = 0
+        await asyncio.sleep(4 * AGAIN)
+        screens.send("pulse", b"3")
+        assert slow.sent == [b"0", b"2", b"3"]
 
 
 def test_a_reader_that_takes_nothing_ends(hall: Halls) -> None:

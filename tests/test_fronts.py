@@ -20,7 +20,8 @@ from pytest import MonkeyPatch
 from ucl_hall.engine.answers import Refused, Reply
 from ucl_hall.engine.history import Event
 from ucl_hall.engine.json_lines import answer_of, reply_of
-from ucl_hall.engine.trial import Changed, LeaveOut, MendRefused, Trial
+from ucl_hall.engine.trial import Change, Changed, ClubChange, LeaveOut, MendRefused
+from ucl_hall.engine.trial import NewEdition, Trial
 from ucl_hall.faults import CutOff, DiskFails, Dropped, Held, Lost, NotEntered, NotWritten, Replaced
 from ucl_hall.record.board import Board as AnyBoard
 from ucl_hall.record.record import Record
@@ -30,6 +31,7 @@ from ucl_hall.terminal import batch, command, words
 from ucl_hall.terminal.grammar import LINES
 from ucl_hall.terminal.pending import Pending, Seen, Sent
 from ucl_hall.terminal.session import Session
+from ucl_hall.web.notices import Notices
 from ucl_hall.web.phones import WAYS, Reporter, events_told, message_of
 from ucl_hall.web.shown import Shown
 
@@ -330,15 +332,20 @@ async def test_what_waits_is_taken_before_a_newer_moment_is_drawn(
 
 
 async def test_what_others_enter_is_told(board: Board, desk: Desk) -> None:
-    """With its row, and its match as it stands; what is one's own is not, nor what is refused."""
-    answers = [answer_of(line) for line in lines_to(GOAL + "2,1,4,goal-home\n")]
+    """With its row, and its match as it stands; what is one's own is not, nor what is refused. What
+    the same reporter enters elsewhere is."""
+    came = GOAL + "2,1,4,goal-home\n1,1,5,goal-away\n"
+    answers = [answer_of(line) for line in lines_to(came)]
     desk.pending.add(Sent("1 goal home", [Row(1, 3, "goal-home")]))
-    board.tell(reply_of(answers[-4:-2]))
+    board.tell(reply_of(answers[-6:-4]))
     assert desk.lines == []
-    board.tell(reply_of(answers[-2:]))
+    board.tell(reply_of(answers[-4:-2]))
     board.tell(Reply(refusal("1,1,2,goal-home\n")))
-    told = "row 10: 1 goal home by reporter 2: Bravo 3-1 Charlie, in play, event 5 by 2"
-    assert desk.lines == [told]
+    board.tell(reply_of(answers[-2:]))
+    assert desk.lines == [
+        "row 10: 1 goal home by reporter 2: Bravo 3-1 Charlie, in play, event 5 by 2",
+        "row 11: 1 goal away by reporter 1: Bravo 3-2 Charlie, in play, event 6 by 1",
+    ]
 
 
 def test_own_rows_of_an_edition_that_is_over_wait_no_more() -> None:
@@ -439,6 +446,33 @@ async def test_a_mend_by_the_command_line(
     assert desk.lines[:10] == [ASKED, *before, "GROUP B v00002 IN PLAY 1 EDITION 1"]
 
 
+@pytest.mark.parametrize(
+    "words, change",
+    [
+        *(
+            (["--mend"], NewEdition()),
+            (["--mend", ""], NewEdition()),
+            (["--mend", "7"], LeaveOut(7)),
+        ),
+        (["--mend", "club 2 Real Madrid"], ClubChange(2, name="Real Madrid")),
+        (["--mend", "coefficient 1 61.000"], ClubChange(1, coefficient=61_000)),
+    ],
+)
+async def test_what_a_mend_by_the_command_line_takes(
+    desk: Desk, monkeypatch: MonkeyPatch, words: list[str], change: Change
+) -> None:
+    """What is typed at a terminal, and a row alone; nothing is a new edition."""
+    monkeypatch.setattr(desk, "propose", proposed := AsyncMock())
+    assert await command._mend(desk, command.options_of(["a.csv", *words]), desk) == 0
+    assert proposed.await_args and proposed.await_args.args[1] == change
+
+
+async def test_an_event_is_no_mend(desk: Desk) -> None:
+    options = command.options_of(["a.csv", "--mend", "1 kickoff"])
+    with pytest.raises(NotEntered, match="--mend takes 17, "):
+        await command._mend(desk, options, desk)
+
+
 # ---- without a terminal
 
 
@@ -498,6 +532,18 @@ async def test_rows_with_their_numbers(board: Board, desk: Desk, given: list[str
     sent = [(it.way, it.edition, *it.rows) for it in board.sent if isinstance(it, Events)]
     line = Way.FIRST, 1, Row(2, 0, "kickoff")
     assert sent == [line, (Way.AGAIN, 1, Row(1, 2, "goal-home")), line]
+
+
+async def test_who_looks_on_is_told_why_the_board_has_ended(
+    board: Board, capsys: pytest.CaptureFixture[str]
+) -> None:
+    """By the fault, behind what was shown."""
+    watching = asyncio.create_task(batch.watch_lines(board, [1]))
+    await asyncio.sleep(0)
+    board.over.set_exception(Replaced("a.csv"))
+    with pytest.raises(Replaced):
+        await watching
+    assert capsys.readouterr().out.endswith("\n 1 Bravo 1-1 Charlie, in play, event 3 by 1\n")
 
 
 def test_a_sheet() -> None:
@@ -574,3 +620,22 @@ def test_an_operator_is_told_that_a_board_is_gone(
         group.look()
         assert capsys.readouterr().err == told
         assert (group.health()["fault"], group.health()["is_there"]) == (fault, not silence)
+
+
+def test_an_operator_is_told_of_strangers_once_a_minute(
+    capsys: pytest.CaptureFixture[str], monkeypatch: MonkeyPatch
+) -> None:
+    """In a line, of all that has come up since the last."""
+    clock = SimpleNamespace(monotonic=lambda: 0.0)
+    monkeypatch.setattr("ucl_hall.web.notices.time", clock)
+    notices = Notices()
+    for second, came, told in [
+        *((100, ["1.1.1.1"], "cut off 1 connections, all of 1.1.1.1"), (101, ["1.1.1.2"], "")),
+        *((159, ["1.1.1.3"] * 2, ""), (160, [], "cut off 3 connections, most of 1.1.1.3")),
+        *((161, ["1.1.1.1"], ""), (230, [], "cut off 1 connections, all of 1.1.1.1")),
+    ]:
+        clock.monotonic = lambda: float(second)
+        for address in came:
+            notices.cut_off(address)
+        notices.tell()
+        assert capsys.readouterr().err == (f"ucl_serve: {told}\n" if told else "")

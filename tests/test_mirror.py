@@ -1,5 +1,6 @@
 """Servers that follow another: what they show, whatever becomes of the lines on their way."""
 
+import contextlib
 import json
 import os
 import random
@@ -109,7 +110,8 @@ def test_a_mirror_of_a_mirror_shows_what_the_board_shows(hall: Halls, mirrors: M
 
 
 def test_the_board_is_killed_and_comes_back(hall: Halls, mirrors: Mirrors) -> None:
-    """Who looks on is told that the picture is old, also who comes then; it never goes back."""
+    """Who looks on is told that the picture is old, also who comes then; it never goes back. Who
+    runs the mirror is told each time."""
     one = hall("--reporter", "1")
     mirror = mirrors(*source(one.port))
     assert one.phone(1).answer(1, 0, "kickoff") == "entered"
@@ -125,10 +127,11 @@ def test_the_board_is_killed_and_comes_back(hall: Halls, mirrors: Mirrors) -> No
     assert until(lambda: int(got(mirror.port, "/table.txt")[1]["age"]) > old >= 3)
     one.process.send_signal(signal.SIGCONT)
     assert until(mirror.is_there)
-    one.end()
-    assert until(lambda: not mirror.is_there())
-    one.start()
-    assert until(mirror.is_there) and "age" not in got(mirror.port, "/table.txt")[1]
+    for _ in range(2):
+        one.end()
+        assert until(lambda: not mirror.is_there())
+        one.start()
+        assert until(mirror.is_there) and "age" not in got(mirror.port, "/table.txt")[1]
     assert one.phone(1).answer(1, 1, "goal-home") == "entered"
     assert early.until("screen", version=2) and late.until("screen", version=2)
     shown = [it["version"] for it in early.lines if it["reply"] == "screen"]
@@ -139,7 +142,7 @@ def test_the_board_is_killed_and_comes_back(hall: Halls, mirrors: Mirrors) -> No
     lost = [f"{named}{why}; it is tried again until it is there" for why in ways]
     lines = told.errors.splitlines()
     assert told.status == 0 and lines and set(lines[::2]) <= set(lost)
-    assert lines[1::2] == [f"{named}it is there again"] * (len(lines) // 2)
+    assert len(lines) >= 4 and lines[1::2] == [f"{named}it is there again"] * (len(lines) // 2)
 
 
 def test_several_of_one_record_make_one_picture(hall: Halls, mirrors: Mirrors) -> None:
@@ -265,6 +268,15 @@ def test_lines_that_are_none_of_a_feed(mirrors: Mirrors) -> None:
     assert mirror.end(signal.SIGTERM) == (0, "", "")
 
 
+def test_a_mirror_with_a_title_of_its_own(mirrors: Mirrors) -> None:
+    """It stays, whatever the other server is called."""
+    mirror = mirrors("--follow", "-", "--title", "Newsroom")
+    put(mirror, ['{"reply":"hall","title":"Finals","groups":"A","tonight":{"A":[1]}}', LINES[0]])
+    assert mirror.shows(1)
+    named = {"reply": "hall", "title": "Newsroom", "groups": "A", "tonight": {"A": [1]}}
+    assert Socket(mirror.port, "/lines").receive() == named
+
+
 def test_a_follower_is_killed_before_it_has_read(mirrors: Mirrors) -> None:
     """The line is given to the next one, which tells nothing twice."""
     mirror = mirrors("--follow", "-")
@@ -282,6 +294,28 @@ def test_a_follower_is_killed_before_it_has_read(mirrors: Mirrors) -> None:
         assert mirror.shows(version)
     assert versions(feed, 11) == [*range(1, 12)]
     assert mirror.end(signal.SIGTERM) == (0, "", "")
+
+
+def test_a_follower_that_is_killed_again_and_again(mirrors: Mirrors) -> None:
+    """What was shown stays, and is called old, although pulses say that it is the board's."""
+    mirror, pulse = mirrors("--follow", "-"), PULSE.replace(str([0, len(LINES)]), "[0, 1]")
+    put(mirror, [LINES[0], pulse])
+    assert mirror.shows(1) and until(mirror.is_there)
+
+    def is_over() -> bool:
+        for child in mirror.children():
+            with contextlib.suppress(ProcessLookupError):
+                os.kill(child, signal.SIGKILL)
+        return "again and again" in health(mirror.port)["groups"]["A"]["fault"]
+
+    assert until(is_over, 60)
+    put(mirror, [pulse])
+    screen = Socket(mirror.port, "/lines")
+    for _ in range(3):
+        put(mirror, [pulse])
+        assert screen.until("pulse") and screen.lines[-1]["groups"] == ""
+        assert not mirror.is_there()
+    assert table(mirror)["version"] == 1
 
 
 def test_a_long_pipe_and_its_end(mirrors: Mirrors) -> None:

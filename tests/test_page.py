@@ -659,6 +659,21 @@ def edges(sheet, name):
 
 
 @pytest.mark.quick
+def test_an_overlay_in_a_frame_of_a_light_page(sheet, tmp_path):
+    """What stands behind it is seen: a browser gives a frame of another colour scheme a ground of its own."""
+    image = pytest.importorskip("PIL.Image", reason="no Pillow: python3-pil has it")
+    style = "border: 0; width: 100%; height: 100vh"
+    frame = f"<iframe src='{PAGE.as_uri()}?group=A&overlay' style='{style}'></iframe>"
+    (tmp_path / "light.html").write_text(f"<body style='margin: 0; background: #00ff00'>{frame}")
+    sheet.resize(LARGE)
+    sheet.browser.get((tmp_path / "light.html").as_uri())
+    (tmp_path / "light.png").write_bytes(sheet.picture())
+    picture = image.open(tmp_path / "light.png").convert("RGB")
+    assert picture.getpixel((LARGE[0] // 2, LARGE[1] - 50)) == (0, 255, 0)
+    assert picture.getpixel((LARGE[0] // 2, 60)) != (0, 255, 0)
+
+
+@pytest.mark.quick
 @pytest.mark.parametrize(
     "words, size", [("overlay", LARGE), ("overlay", (390, 844)), ("overlay&silent", LARGE)]
 )
@@ -752,7 +767,7 @@ def test_matches_that_are_over_stay_until_their_clubs_play_again(sheet):
 
 @pytest.mark.quick
 def test_seasons_that_are_replayed(browser):
-    """Whoever has the page and a server of files sees a matchday, or a season of a group or of all, which end as they did."""
+    """Whoever has the page and a server of files sees a matchday, or a season of a group or of all, which end as they did, and then begin again."""
     port = free_port()
     shown = lambda: browser.execute_script(SHOWN + "return shown()")
     asked = [
@@ -772,6 +787,17 @@ def test_seasons_that_are_replayed(browser):
             assert shown() == wanted, words
         browser.get(f"http://127.0.0.1:{port}/?replay=2020-21&group=A")
         assert until(lambda: shown()["A"]["signal"] == "No recording", 20)
+        # Time passes faster there, so that nobody waits for the end of its pause.
+        fast = (
+            "const later = setTimeout; window.setTimeout = (work, time) => later(work, time / 50);"
+        )
+        added = browser.execute_cdp_cmd("Page.addScriptToEvaluateOnNewDocument", {"source": fast})
+        try:
+            browser.get(f"http://127.0.0.1:{port}/?replay&group=A&pace=1")
+            browser.execute_script("window.isFirst = true")
+            assert until(lambda: browser.execute_script("return !window.isFirst"), 20)
+        finally:
+            browser.execute_cdp_cmd("Page.removeScriptToEvaluateOnNewDocument", added)
 
 
 # ---- with a server

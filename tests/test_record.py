@@ -349,17 +349,18 @@ async def test_an_edition_of_which_no_screen_has_come(record: Record, path: str,
 async def test_ucl_live_is_killed(
     record: Record, path: str, caplog: pytest.LogCaptureFixture
 ) -> None:
-    """Nobody sees it: each reply comes once, the moment never falls, and nothing is logged."""
+    """Nobody sees it, however often it is in an evening: each reply comes once, the moment never
+    falls, and nothing is logged."""
     heard, chance = list[Reply](), random.Random(5)
     record.listen(heard.append)
     await record.ready()
-    for number in range(30):
+    for number in range(60):
         if chance.random() < 0.5:
             kill(record)
         assert isinstance(await entered(record, goal(record)), Entered), number
-    assert [it.row for it in heard] == [*range(9, 39)]
-    assert [it.screen and it.screen.version for it in heard] == [*range(4, 34)]
-    assert [it.row for it in record.events(1)] == [*range(6, 39)]
+    assert [it.row for it in heard] == [*range(9, 69)]
+    assert [it.screen and it.screen.version for it in heard] == [*range(4, 64)]
+    assert [it.row for it in record.events(1)] == [*range(6, 69)]
     for _ in range(20):
         kill(record)
         append_to(path, "x\n" * 20)

@@ -120,7 +120,8 @@ def test_what_goes_with_a_link(hall: Halls) -> None:
 
 
 def test_a_terminal_among_others(hall: Halls, terminals: Callable[..., Any]) -> None:
-    """It shows what others enter, a new edition, and the events of a match; it refuses mends."""
+    """It shows what others enter, and nothing of its own as theirs, a new edition, and the events of
+    a match; it refuses mends."""
     one = hall("--reporter", "1:1,2", "--reporter", "2")
     near, far = terminals(one, "a.csv", "--number", "3"), terminals(one, link(one))
     near.sees("Ctrl-D ends")
@@ -140,7 +141,8 @@ def test_a_terminal_among_others(hall: Halls, terminals: Callable[..., Any]) -> 
     far.sees("Edition 1 has begun: look at the matches").enter("1 yellow away", "entered, row 12")
     board, near_board = far.board(), near.board()
     assert board.startswith(near_board[: near_board.index("\n 1 ")]) and " 3 " not in board[-200:]
-    assert board.count("\n") == 8 and (far.end(), near.end()) == (0, 0) and far.is_as_before()
+    assert board.count("\n") == 8 and "by reporter 1: " not in far.text()
+    assert (far.end(), near.end()) == (0, 0) and far.is_as_before()
 
 
 # ---- lost connections, and kills

@@ -163,6 +163,7 @@ def test_what_is_shown_of_a_match(page: Page) -> None:
     assert page.text("goals") == "v" and page.text("last") == "To come."
     page.hear({"reply": "phones", "count": 2}, ME | {"title": "Finals"})
     assert page.text("line") == "2 phones have this link. Reporter 1, group B: Finals"
+    assert page.browser.title == "Reporter 1, group B: Finals"
 
 
 def test_what_is_sent(page: Page) -> None:
@@ -322,13 +323,17 @@ def test_a_match_that_is_another_s_by_now(page: Page) -> None:
 
 
 def test_a_mend(page: Page) -> None:
-    """It is told, and a tap is of the edition that stands."""
+    """It is told for more than ten seconds, not for good, and a tap is of the edition that stands."""
     page.begin(STARTED)
     page.hear(*mended(STARTED, 7))
-    assert page.text("line") == "Corrected: row 7 no longer counts: look before you tap"
-    assert page.text("goals") == "0\N{EN DASH}0"
+    told = "Corrected: row 7 no longer counts: look before you tap"
+    assert page.text("line") == told and page.text("goals") == "0\N{EN DASH}0"
     page.click("goal-away")
     assert page.sent() == [tap_of("goal-away", 2, edition=1)]
+    page.goes_on(10_000)
+    assert page.text("line") == told
+    page.goes_on(50_000)
+    assert page.text("line") == "Reporter 1, group B"
 
 
 def test_a_mend_that_leaves_out_more(page: Page) -> None:

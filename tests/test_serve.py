@@ -10,6 +10,7 @@ import re
 import signal
 import socket
 import time
+from types import SimpleNamespace
 
 import model
 import pytest
@@ -173,6 +174,29 @@ def test_a_code_for_each_address(monkeypatch, capsys):
     assert capsys.readouterr().out.splitlines() == [serve.SEEN, *told]
 
 
+OWN = "--certificate c --key k"
+
+
+@pytest.mark.quick
+@pytest.mark.parametrize(
+    "words, url, is_open",
+    [
+        ("--listen hall.local:80", "http://hall.local/", True),
+        ("--listen hall.local:8080", "http://hall.local:8080/", True),
+        (f"--listen hall.local:443 {OWN}", "https://hall.local/", False),
+        (f"--listen hall.local:80 {OWN}", "https://hall.local:80/", False),
+        ("--listen 0.0.0.0:8080 --url https://hall.example", "https://hall.example/", False),
+        ("--listen 0.0.0.0:8080 --url http://hall.example", "http://hall.example/", True),
+        ("--listen [fd00::2]:8080", "http://[fd00::2]:8080/", True),
+    ],
+)
+def test_the_address_for_screens(capsys, words, url, is_open):
+    """Without the port that a browser takes by itself; and what it means that there is no https."""
+    serve.tell(options_of(["a.csv", *words.split()]), [])
+    told = [f"Screens: {url}", *[serve.OPEN] * is_open]
+    assert capsys.readouterr().out.splitlines() == told
+
+
 def test_files_that_the_pages_leave_are_no_sources():
     """What the commands of README and OPERATE leave in the folder is not taken for a source."""
     if command(["git", "rev-parse"]).status:
@@ -201,6 +225,34 @@ def test_records_stand_wherever_they_are_typed():
     options = options_of("a.csv --clubs a --listen 0.0.0.0:8080 b.csv --clubs b".split())
     assert (options.records, options.clubs) == (["a.csv", "b.csv"], ["a", "b"])
     assert options_of(["--links", "a.csv", "--url", "http://x", "b.csv"]).records[1:] == ["b.csv"]
+
+
+@pytest.mark.quick
+def test_the_group_that_is_likely(monkeypatch, tmp_path):
+    """Of records that are not there yet the second is asked for as group B."""
+    monkeypatch.chdir(tmp_path)
+    monkeypatch.setattr("sys.stdin", SimpleNamespace(isatty=lambda: True))
+    monkeypatch.setattr(serve, "rows_by_questions", lambda letter="A": letter)
+    rows = serve.first_rows(options_of(["x.csv", "y.csv"]))
+    assert rows == {"x.csv": "A", "y.csv": "B"}
+
+
+@pytest.mark.quick
+def test_what_holds_without_an_option_is_as_the_help_says(capsys):
+    """A server that is started by its records alone is reached from this machine alone."""
+    options = options_of(["a.csv"])
+    assert (options.listen, options.most_screens) == (("127.0.0.1", 8080), 4_000)
+    assert (options.groups, options.order) == ("ABCDEFGH", "uefa")
+    assert options.evening("A").reporters == {1: tuple(range(1, 13))}
+    with pytest.raises(SystemExit) as ended:
+        options_of(["--help"])
+    told = " ".join(capsys.readouterr().out.split())
+    assert ended.value.code == 0
+    for words in (
+        *("--listen HOST:PORT 127.0.0.1:8080 without it;", "--most-screens N 4000 without it;"),
+        *("as 2:5,6; 1 without it;", "--group, A without it,"),
+    ):
+        assert words in told
 
 
 @pytest.mark.quick
@@ -341,7 +393,8 @@ def test_a_page_of_another_host_opens_no_websocket(hall):
 @pytest.mark.quick
 def test_names_that_are_not_of_this_server(hall):
     """A page of another host may have its name lead here: it reads nothing. Nobody is asked for a name."""
-    one = hall("--reporter", "1", "--url", "http://Hall.example:8080/")
+    at = ["--at", "http://Second.example:8080"]
+    one = hall("--reporter", "1", "--url", "http://Hall.example:8080/", *at)
     paths = ["/", "/health", "/replay.jsonl", f"/report/{one.key(1)}"]
     asked = lambda path, host: one.get(path, f"Host: {host}", host=False)[0]
     for host in (
@@ -352,7 +405,7 @@ def test_names_that_are_not_of_this_server(hall):
         assert Socket(one.port, "/lines", host=host, origin=f"http://{host}").status in (403, 400)
     for host in (
         *("127.0.0.1", f"127.0.0.1:{one.port}", "192.168.1.5", "[::1]:8080", "localhost"),
-        *("laptop.local:8080", "hall.example", "HALL.example:8080"),
+        *("laptop.local:8080", "hall.example", "HALL.example:8080", "second.example:8080"),
     ):
         assert {asked(path, host) for path in paths} == {200}, host
         assert Socket(one.port, "/lines", host=host).status == 101
