@@ -134,7 +134,9 @@ def test_whatever_is_typed(evening: Evening) -> None:
         one.type(" ".join(chance.choices([*WORDS.split(), *KEYS], k=count)) + "\r")
         while one.read(0.02):
             pass
-    one.type(f"{EMPTIED}\rn\r{EMPTIED}").board()
+    for _ in range(3):
+        # What one of these lines asks by now takes the next line as its answer.
+        one.type(f"{EMPTIED}\rn\r{EMPTIED}").board()
     one.enter("mend", "would begin").enter("y", " has begun")
     assert one.end() == 0 and one.is_as_before()
     board, answers = evening.played()
