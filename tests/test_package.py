@@ -255,8 +255,8 @@ def test_examples_where_they_are_installed(full):
     night = f"python3 /usr/share/doc/python3-uclboard/examples/night.py A <{DOC}/first_night.csv"
     assert full.needs(night) == text_of(EXAMPLES / "first_night.expected")
     for library in "$(pkg-config --cflags --libs uclboard)", f"/{LIBRARIES}/libuclboard.a":
-        full.needs(f"cc /usr/share/doc/libuclboard-dev/examples/feed.c {library} -o /tmp/feed")
-        assert full.run("/tmp/feed", ONE_GOAL[0]) == (0, ONE_GOAL[1], "")
+        full.needs(f"cc /usr/share/doc/libuclboard-dev/examples/feed.c {library} -o /feed")
+        assert full.run("/feed", ONE_GOAL[0]) == (0, ONE_GOAL[1], "")
 
 
 def test_manual(full):
